@@ -3,7 +3,7 @@ use Rattle.lock_tests.specs.declared.diaries.Event.{Event}
 use Rattle.lock_tests.specs.declared.diaries.Event.TheVariants.{Note, Remark}
 
 -- the numbers of the notes
-abbrev pub numbers_of : List Event → List ℕ
-numbers_of [] = []
-numbers_of (Note n ∷ es) = n ∷ numbers_of es
-numbers_of (Remark text ∷ es) = numbers_of es
+abbrev pub note_numbers : List Event → List ℕ
+note_numbers [] = []
+note_numbers (Note n ∷ es) = n ∷ note_numbers es
+note_numbers (Remark text ∷ es) = note_numbers es

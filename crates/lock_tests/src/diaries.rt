@@ -1,7 +1,7 @@
 // A diary under a lock: a value with a model, whose entries own memory, and a change of which may find none.
 ghost use Rattle.std.specs.Prelude.{◌≡◌, [], ◌∷◌, ◌++◌, length, IfOk, IfErr};
 ghost use Rattle.ps_lock.specs.Words.{IsSeatOf, seen_by, own_entries_of};
-ghost use Rattle.lock_tests.specs.Notes.{numbers_of};
+ghost use Rattle.lock_tests.specs.Notes.{note_numbers};
 
 use ps_data::{Memory, Text};
 use ps_lock::{Kept, Seat, StoreLock};
@@ -63,7 +63,7 @@ impl Kept for Diary {
 
     ghost set_by = { λ _. tt };
 
-    ghost stands = { λ _ diary history. diary ≡ numbers_of history };
+    ghost stands = { λ _ diary history. diary ≡ note_numbers history };
 }
 
 /// Notes a number in one turn. Where it is out of memory it adds nothing.

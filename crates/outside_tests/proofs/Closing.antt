@@ -8,7 +8,7 @@ use Rattle.std.specs.List.{list_any}
 use Rattle.ps_io.specs.Sources.{Input}
 use Rattle.ps_io.specs.declared.sources.Source as Source
 use Rattle.ps_io.specs.declared.outputs.Sink as Sink
-use Rattle.ps_doors.specs.Connections.{Connection, numbers_of, Lacks, IsOut, IsFresh, told_by, with_closed}
+use Rattle.ps_doors.specs.Connections.{Connection, connection_numbers, Lacks, IsOut, IsFresh, told_by, with_closed}
 use Rattle.outside_tests.specs.Echoes.{IsEcho, AreEchoes, HaveEchoed, HaveEchoedBackwards}
 
 -- echoes, and more of them behind these
@@ -72,7 +72,7 @@ lacks_more number other faults wrong (Some closed) (Some input) None differs lac
 lacks_more number other faults wrong (Some closed) (Some input) (Some taken) differs lacks =
     let one : Connection = record { number = other; given = input.given; ended = input.ended; read_faults = faults; taken = taken; write_faults = wrong } in
     ap (list_any (nat_eq number)) (map-append (λ (c : Connection). c.number) closed (one ∷ []))
-    ∙ list_any-append (nat_eq number) (numbers_of closed) (other ∷ [])
+    ∙ list_any-append (nat_eq number) (connection_numbers closed) (other ∷ [])
     ∙ ap (λ b. b || (nat_eq number other || false)) lacks ∙ ap (λ b. b || false) differs
 
 module _ {S K : Type 0} (g : Source.Ghosts S) (h : Sink.Ghosts K) where

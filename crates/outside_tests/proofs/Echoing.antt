@@ -5,7 +5,7 @@ use Rattle.ps_io.specs.Contents.{Gains, GainsFront}
 use Rattle.ps_io.specs.Counts.{Rose}
 use Rattle.ps_io.specs.declared.outputs.Failed.{Failed}
 use Rattle.ps_io.specs.Sources.{Input, Gives, GivesAll}
-use Rattle.ps_doors.specs.Connections.{Connection, fresh, told_by}
+use Rattle.ps_doors.specs.Connections.{Connection, fresh_connection, told_by}
 use Rattle.outside_tests.specs.Echoes.{IsEcho, Handed, IsSent}
 
 abbrev number_in : Option Connection → ℕ
@@ -47,7 +47,7 @@ handed_none (Some old) new same =
 -- the bytes that were handed out were taken, or a first part of them where the sink has failed
 pub echo_of : (number number_then n faults faults_then wrong wrong_then : ℕ) (old new : Option Input) (before after : Option (List ℕ)) (bytes front rest : List ℕ)
     → Handed old new bytes → bytes ≡ front ++ rest → Gains before after front → (wrong ≡ 0 → (rest ≡ []) ⊎ (0 < wrong_then))
-    → told_by number old faults before wrong ≡ Some (fresh n)
+    → told_by number old faults before wrong ≡ Some (fresh_connection n)
     → number_then ≡ number
     → (connection : Connection) × (told_by number_then new faults_then after wrong_then ≡ Some connection) × IsEcho n connection
 echo_of number number_then n faults faults_then wrong wrong_then None new before after bytes front rest hands is gains whole fresh_then same = cc

@@ -5,7 +5,7 @@ use Rattle.ps_io.specs.declared.sources.Source as Source
 use Rattle.ps_io.specs.declared.outputs.Sink as Sink
 use Rattle.ps_io.specs.Contents.{Gains}
 use Rattle.ps_io.specs.Sources.{Input}
-use Rattle.ps_doors.specs.Connections.{Connection, connection_of, fresh}
+use Rattle.ps_doors.specs.Connections.{Connection, connection_of, fresh_connection}
 
 -- these bytes were handed out, and no others
 abbrev pub Handed : Option Input → Option Input → List ℕ → Type 0
@@ -48,5 +48,5 @@ module _ {S K : Type 0} (g : Source.Ghosts S) (h : Sink.Ghosts K) where
   -- through these ends, through which nothing had passed, an echo passed
   abbrev pub Echo : S → K → S → K → Type 0
   Echo from to from_then to_then =
-      (number : ℕ) → connection_of g h from to ≡ Some (fresh number)
+      (number : ℕ) → connection_of g h from to ≡ Some (fresh_connection number)
       → (connection : Connection) × (connection_of g h from_then to_then ≡ Some connection) × IsEcho number connection

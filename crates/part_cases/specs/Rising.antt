@@ -5,8 +5,8 @@ use Rattle.std.specs.List.{AllByRecursion}
 use Rattle.std.specs.Ordering.{nat_cmp}
 use Rattle.std.specs.declared.cmp.Ordering.TheVariants.{Less}
 use Rattle.ps_bucket_log.specs.declared.takes.TakenBucket.{TakenBucket}
-use Rattle.ps_session.specs.Takes.{name_of}
+use Rattle.ps_session.specs.Takes.{taken_name}
 
 abbrev pub RiseOn : List TakenBucket → Type 0
 RiseOn [] = Unit {0}
-RiseOn (bucket ∷ buckets) = AllByRecursion (λ other. slice_cmp nat_cmp bucket.name other ≡ Less) (map name_of buckets) × RiseOn buckets
+RiseOn (bucket ∷ buckets) = AllByRecursion (λ other. slice_cmp nat_cmp bucket.name other ≡ Less) (map taken_name buckets) × RiseOn buckets

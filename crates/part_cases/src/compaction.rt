@@ -9,19 +9,15 @@ mod plain;
 
 use crate::lines::print_line;
 use case_words::{Stop, cut};
-use ps_compact::{
-    compacted_logs_are_logs, compacted_logs_keep_readers_honest, compacted_logs_keep_sums,
-    compacted_logs_stand, twice_is_once,
-};
 use std::alloc::Global;
 
 // Calls the laws, which do nothing.
 fn call_laws(out: &mut String) -> Result<(), Stop> {
-    compacted_logs_are_logs();
-    compacted_logs_stand();
-    compacted_logs_keep_sums();
-    compacted_logs_keep_readers_honest();
-    twice_is_once();
+    ps_compact::laws::compacted_logs_are_logs();
+    ps_compact::laws::compacted_logs_stand();
+    ps_compact::laws::compacted_logs_keep_sums();
+    ps_compact::laws::compacted_logs_keep_readers_honest();
+    ps_compact::laws::twice_is_once();
     Ok(out.push_str("nothing")?)
 }
 

@@ -76,8 +76,8 @@ fn answer(alloc: Global, desk: &mut Desk, line: &str, out: &mut String) -> Resul
 
 /// Answers the cases.
 pub fn answer_all(rt: HostRuntime, cases: &str, out: &mut String) -> Result<(), Stop> {
-    ps_write_cp::covered_is_the_greatest();
-    ps_write_cp::covers_all_before();
+    ps_write_cp::laws::covered_is_the_greatest();
+    ps_write_cp::laws::covers_all_before();
     let mut desk = fresh(rt.alloc(), GREATEST);
     'lines: for line in cases.lines() {
         answer(rt.alloc(), &mut desk, line, out)?;

@@ -36,7 +36,7 @@ fn answer(alloc: Global, out: &mut String, bytes: &[u8]) -> Result<(), Memory> {
 
 /// Answers the cases.
 pub fn answer_all(rt: HostRuntime, cases: &str, out: &mut String) -> Result<(), Stop> {
-    ps_script::events_are_spelled();
+    ps_script::laws::events_are_spelled();
     'lines: for line in cases.lines() {
         let bytes = unescaped(rt.alloc(), line)?;
         answer(rt.alloc(), out, &bytes)?;

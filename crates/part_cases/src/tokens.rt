@@ -169,7 +169,7 @@ fn answer(
 
 /// Answers the cases.
 pub fn answer_all(rt: HostRuntime, cases: &str, out: &mut String) -> Result<(), Stop> {
-    ps_token::base64url_is_strict();
+    ps_token::laws::base64url_is_strict();
     let mut keys = None;
     'lines: for line in cases.lines() {
         answer(rt.alloc(), &mut keys, line, out)?;

@@ -4,7 +4,7 @@ use Rattle.std.proofs.lemmas.List.{length-take, length-take-le, take-append-drop
 use Rattle.ps_io.specs.Sources.{Input}
 use Rattle.ps_answers.specs.Givings.{HasGiven, HasEnded}
 use Rattle.ps_answers.specs.Lines.{FitsLine, with_feed, HasNoFeed}
-use Rattle.ps_answers.specs.Readers.{IsFound, TakesLine, TakesBody}
+use Rattle.ps_answers.specs.Readers.{IsFound, TakesNextLine, TakesBody}
 use Rattle.ps_answers.specs.Heads.{IsAnswerHead, TakesHead, front_of}
 use Rattle.ps_http.specs.Heads.{head_limit}
 use Rattle.ps_answers.specs.declared.heads.AnswerHead.{AnswerHead}
@@ -21,7 +21,7 @@ HasGiven-split input before all piece left is given =
 
 -- a line that was found was taken
 pub TakesLine-found : (input : Option Input) (before all part left : List ℕ) (result : Result Part LineFault)
-    → HasGiven input (before ++ all) → IsFound all part left result → TakesLine input before part left result
+    → HasGiven input (before ++ all) → IsFound all part left result → TakesNextLine input before part left result
 TakesLine-found input before all part left (Ok Whole) given found =
     (HasGiven-split input before all (with_feed part) left found.0 given, found.1)
 TakesLine-found input before all part left (Ok Cut) given found = absurd found
@@ -39,7 +39,7 @@ same_bytes old new count front long none = sym (take_all (length old) new (omega
 
 -- no line comes any more
 pub TakesLine-end : (input : Option Input) (before old part new : List ℕ) (count : ℕ) → HasGiven input (before ++ new) → FitsLine old
-    → take (length old) new ≡ old → length new ≡ length old + count → count ≡ 0 → HasEnded input → TakesLine input before part new (Ok Cut)
+    → take (length old) new ≡ old → length new ≡ length old + count → count ≡ 0 → HasEnded input → TakesNextLine input before part new (Ok Cut)
 TakesLine-end input before old part new count given fits front long none ended =
     (given, subst FitsLine (sym (same_bytes old new count front long none)) fits, ended)
 

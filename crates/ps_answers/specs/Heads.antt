@@ -45,10 +45,10 @@ BeginsNoHead input bytes =
     ⊎ (HasNoResponse (front_of bytes) × ((head_limit ≤ length bytes) ⊎ HasEnded input))
 
 -- what the first bytes are
-abbrev pub IsJudged : List ℕ → Judged → Type 0
-IsJudged bytes (Head head count) = (count ≤ length bytes) × IsAnswerHead (take count bytes) head
-IsJudged bytes Refused = IsBadHead bytes
-IsJudged bytes Unfinished = HasNoResponse bytes
+abbrev pub AnswerHeadIsJudged : List ℕ → Judged → Type 0
+AnswerHeadIsJudged bytes (Head head count) = (count ≤ length bytes) × IsAnswerHead (take count bytes) head
+AnswerHeadIsJudged bytes Refused = IsBadHead bytes
+AnswerHeadIsJudged bytes Unfinished = HasNoResponse bytes
 
 -- a head was taken, or none comes
 abbrev pub TakesHead : Option Input → List ℕ → List ℕ → List ℕ → Result AnswerHead AnswerFault → Type 0

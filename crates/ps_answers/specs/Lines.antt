@@ -28,5 +28,5 @@ abbrev pub with_feed : List ℕ → List ℕ
 with_feed line = line ++ 10 ∷ []
 
 -- the bytes of lines
-abbrev pub lines_text : List (List ℕ) → List ℕ
-lines_text lines = flat_map with_feed lines
+abbrev pub lines_with_feeds : List (List ℕ) → List ℕ
+lines_with_feeds lines = flat_map with_feed lines

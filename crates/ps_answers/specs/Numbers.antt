@@ -10,21 +10,21 @@ abbrev pub ◌>>=◌ : {A B : Type 0} → Option A → (A → Option B) → Opti
 o >>= f = option_and_then f o
 
 -- the number that the text of that name is, in the object `data`
-abbrev pub number_at : List ℕ → Data → Option ℕ
-number_at name json = do
+abbrev pub data_number : List ℕ → Data → Option ℕ
+data_number name json = do
   inner ← get (codes "data") json
   found ← get name inner
   text ← as_str found
   decimal_of text
 
 -- the same of bytes
-abbrev pub number_in : List ℕ → List ℕ → Option ℕ
-number_in name body = option_and_then (number_at name) (json_of body)
+abbrev pub body_number : List ℕ → List ℕ → Option ℕ
+body_number name body = option_and_then (data_number name) (json_of body)
 
 -- the number of a write checkpoint's answer
 abbrev pub checkpoint_in : List ℕ → Option ℕ
-checkpoint_in body = number_in (codes "write_checkpoint") body
+checkpoint_in body = body_number (codes "write_checkpoint") body
 
 -- the position of an upload's answer
 abbrev pub position_in : List ℕ → Option ℕ
-position_in body = number_in (codes "position") body
+position_in body = body_number (codes "position") body

@@ -47,12 +47,12 @@ IsFound bytes part left (Err Memory) = ⊥
 
 -- the next line was taken, or none comes any more, or it is too long; the source handed out what stands before it, which was taken earlier, and what is left.
 -- Where none was taken and it is not too long, what is left is no more of it than a line may have
-abbrev pub TakesLine : Option Input → List ℕ → List ℕ → List ℕ → Result Part LineFault → Type 0
-TakesLine input before part left (Ok Whole) = HasGiven input (before ++ with_feed part ++ left) × FitsLine part
-TakesLine input before part left (Ok Cut) = HasGiven input (before ++ left) × FitsLine left × HasEnded input
-TakesLine input before part left (Err (TooLong seen)) = GivesTooLong input before seen
-TakesLine input before part left (Err Failed) = HasGiven input (before ++ left) × FitsLine left
-TakesLine input before part left (Err Memory) = HasGiven input (before ++ left) × FitsLine left
+abbrev pub TakesNextLine : Option Input → List ℕ → List ℕ → List ℕ → Result Part LineFault → Type 0
+TakesNextLine input before part left (Ok Whole) = HasGiven input (before ++ with_feed part ++ left) × FitsLine part
+TakesNextLine input before part left (Ok Cut) = HasGiven input (before ++ left) × FitsLine left × HasEnded input
+TakesNextLine input before part left (Err (TooLong seen)) = GivesTooLong input before seen
+TakesNextLine input before part left (Err Failed) = HasGiven input (before ++ left) × FitsLine left
+TakesNextLine input before part left (Err Memory) = HasGiven input (before ++ left) × FitsLine left
 
 -- no more is left than a line may have, unless one is too long
 abbrev pub LeavesFew : List ℕ → Result Part LineFault → Type 0

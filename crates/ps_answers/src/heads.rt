@@ -4,7 +4,7 @@ ghost use Rattle.std.specs.Prelude.{◌≡◌, ◌≢◌, ◌≤◌, ◌++◌, �
 ghost use Rattle.ps_io.specs.Counts.{Rose};
 ghost use Rattle.ps_http.specs.Heads.{head_limit};
 ghost use Rattle.ps_answers.specs.Givings.{HasGiven};
-ghost use Rattle.ps_answers.specs.Heads.{IsJudged, TakesHead, front_of};
+ghost use Rattle.ps_answers.specs.Heads.{AnswerHeadIsJudged, TakesHead, front_of};
 ghost use Rattle.ps_answers.specs.Lines.{line_limit};
 ghost use Rattle.ps_answers.specs.Readers.{left_of, part_of};
 
@@ -70,7 +70,7 @@ fn front(bytes: &[u8]) -> &[u8]
 // What the bytes are.
 fn judge(bytes: &[u8]) -> Judged
     requires { length bytes.now ≤ head_limit }
-    ensures { IsJudged bytes.now result }
+    ensures { AnswerHeadIsJudged bytes.now result }
 {
     let mut headers = [EMPTY_HEADER_SPAN; FIELD_LIMIT];
     match parse_response(bytes, &mut headers) {

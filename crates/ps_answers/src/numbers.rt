@@ -4,7 +4,7 @@ ghost use Rattle.std.specs.Prelude.{◌≡◌, ◌≤◌, IfOk, IfSome, Ok, None
 ghost use Rattle.std.specs.Str.{IsUtf8};
 ghost use Rattle.ps_data.specs.Numbers.{greatest};
 ghost use Rattle.serde_json.specs.View.{view};
-ghost use Rattle.ps_answers.specs.Numbers.{number_at, number_in, position_in, checkpoint_in};
+ghost use Rattle.ps_answers.specs.Numbers.{data_number, body_number, position_in, checkpoint_in};
 
 use ps_data::{Memory, Text};
 use ps_values::{read_decimal, read_json};
@@ -13,7 +13,7 @@ use std::alloc::Global;
 
 // The number that the text of that name is, in the object `data`.
 fn number_of(alloc: Global, json: &Json, name: &str) -> Result<Option<u64>, Memory>
-    ensures value { IfOk result (λ number. number ≡ number_at name.now (view json.now)) }
+    ensures value { IfOk result (λ number. number ≡ data_number name.now (view json.now)) }
     ensures within { IfOk result (λ number. IfSome number (λ n. n ≤ greatest)) }
 {
     let Some(data) = json.get("data") else {
@@ -28,7 +28,7 @@ fn number_of(alloc: Global, json: &Json, name: &str) -> Result<Option<u64>, Memo
 
 // The same of bytes.
 fn number_named(alloc: Global, body: &[u8], name: &str) -> Result<Option<u64>, Memory>
-    ensures value { IfOk result (λ number. number ≡ number_in name.now body.now) }
+    ensures value { IfOk result (λ number. number ≡ body_number name.now body.now) }
     ensures within { IfOk result (λ number. IfSome number (λ n. n ≤ greatest)) }
     ensures no_text { ¬ (IsUtf8 body.now) → result ≡ Ok None }
 {

@@ -4,7 +4,7 @@ ghost use Rattle.std.specs.Prelude.{◌≡◌, ◌≢◌, ◌<◌, ◌≤◌, �
 ghost use Rattle.ps_io.specs.Counts.{Rose};
 ghost use Rattle.ps_answers.specs.Givings.{HasGiven, HasEnded, Grows, read_size};
 ghost use Rattle.ps_answers.specs.Lines.{HasNoFeed, line_limit};
-ghost use Rattle.ps_answers.specs.Readers.{part_of, left_of, TakesLine, LeavesFew, TakesBody, FeedsIn, IsFound};
+ghost use Rattle.ps_answers.specs.Readers.{part_of, left_of, TakesNextLine, LeavesFew, TakesBody, FeedsIn, IsFound};
 
 use crate::reads::read_more;
 use crate::{ReadFault, Reader};
@@ -150,7 +150,7 @@ impl Reader {
     /// of it, has more than 268,435,456 bytes. After a fault what was read is left. Where no more was left than a line may have, no more is left then.
     pub fn next_line<S: Source>(&mut self, from: &mut S) -> Result<Part, LineFault>
         ensures line { (before : List ℕ) → HasGiven (S.input from.old) (before ++ left_of self.old)
-            → TakesLine (S.input from.new) before (part_of self.new) (left_of self.new) result }
+            → TakesNextLine (S.input from.new) before (part_of self.new) (left_of self.new) result }
         ensures ahead { length (left_of self.old) ≤ line_limit → LeavesFew (left_of self.new) result }
         ensures told { is_some (S.input from.new) ≡ is_some (S.input from.old) }
         ensures failed { result ≡ Err LineFault.Failed → Rose (S.faults from.old) (S.faults from.new) }

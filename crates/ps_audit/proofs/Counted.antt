@@ -19,7 +19,7 @@ use Rattle.ps_bucket_eval.specs.declared.placed.Placed.{Placed}
 use Rattle.ps_store.specs.declared.entered.Entered.{Entered}
 use Rattle.ps_store.specs.Originals.{Timed, timed_from, timed, key_of, after, entries_at, columns_of, standing_entries, leaving, removed, put, numbered, written, change_ops, ops_from, original}
 use Rattle.ps_audit.specs.declared.standing.Standing.{Standing}
-use Rattle.ps_audit.specs.Counts.{change_count, count_from, operations_behind, entries_in, Stands, timed_at}
+use Rattle.ps_audit.specs.Counts.{change_count, count_from, operations_behind, entries_in, EntriesStand, timed_at}
 
 -- ---- numbers of operations
 
@@ -110,7 +110,7 @@ columns_of_version position index (Some columns) = refl
 pub stands_change : (definitions : List Definition) (old new : Standing) (source : Source) (position index : ℕ) (change : Change) (entries : List Placed)
     → ((other : Key) → entries_in new other ≡ (if eq_by_cmp key_cmp other (change.table, change.id) then entries else entries_in old other))
     → entries ≡ entries_at definitions (change.table, change.id) change.row
-    → Stands definitions old source → Stands definitions new (after source (timed_at position index change))
+    → EntriesStand definitions old source → EntriesStand definitions new (after source (timed_at position index change))
 stands_change definitions old new source position index change entries puts is stands = λ q.
     puts q ∙ by q (eq_by_cmp key_cmp q (change.table, change.id)) refl
     ∙ sym (ap (λ v. entries_at definitions q (columns_of v)) (find-after_row position index (change.table, change.id) change.row source q))
@@ -133,11 +133,11 @@ timed_drop position index changes i change within is =
 -- a count so far over changes, and what stands after those so far
 pub record CountsOn (definitions : List Definition) (standing : Standing) (source : Source) (position index total : ℕ) (changes : List Change) : Type 0 where
   pub now : Source
-  pub stands : Stands definitions standing now
+  pub stands : EntriesStand definitions standing now
   pub count : total + count_from definitions now (timed_from position index (drop index changes)) ≡ count_from definitions source (timed_from position 0 changes)
   pub after_is : fold after now (timed_from position index (drop index changes)) ≡ fold after source (timed_from position 0 changes)
 
-pub counts_first : (definitions : List Definition) (standing : Standing) (source : Source) (position : ℕ) (changes : List Change) → Stands definitions standing source
+pub counts_first : (definitions : List Definition) (standing : Standing) (source : Source) (position : ℕ) (changes : List Change) → EntriesStand definitions standing source
     → CountsOn definitions standing source position 0 0 changes
 counts_first definitions standing source position changes stands = record { now = source; stands = stands; count = first changes; after_is = none changes }
   where
@@ -151,8 +151,8 @@ counts_first definitions standing source position changes stands = record { now 
 
 pub counts_more : (definitions : List Definition) (old new : Standing) (source : Source) (position index total count : ℕ) (changes : List Change) (change : Change)
     → index < length changes → change ≡ get_or changes index change
-    → ((now : Source) (p i : ℕ) → Stands definitions old now → count ≡ change_count definitions now (timed_at p i change))
-    → ((now : Source) (p i : ℕ) → Stands definitions old now → Stands definitions new (after now (timed_at p i change)))
+    → ((now : Source) (p i : ℕ) → EntriesStand definitions old now → count ≡ change_count definitions now (timed_at p i change))
+    → ((now : Source) (p i : ℕ) → EntriesStand definitions old now → EntriesStand definitions new (after now (timed_at p i change)))
     → CountsOn definitions old source position index total changes → CountsOn definitions new source position (index + 1) (total + count) changes
 counts_more definitions old new source position index total count changes change within is counted stands on =
     let t = timed_at position index change in
@@ -167,10 +167,10 @@ counts_more definitions old new source position index total count changes change
 
 pub counts_all : (definitions : List Definition) (standing : Standing) (source : Source) (position index total : ℕ) (changes : List Change) → drop index changes ≡ []
     → CountsOn definitions standing source position index total changes
-    → (total ≡ count_from definitions source (timed_from position 0 changes)) × Stands definitions standing (fold after source (timed_from position 0 changes))
+    → (total ≡ count_from definitions source (timed_from position 0 changes)) × EntriesStand definitions standing (fold after source (timed_from position 0 changes))
 counts_all definitions standing source position index total changes none on = (
   omega (arith, on.count, ap (λ cs. count_from definitions on.now (timed_from position index cs)) none),
-  subst (Stands definitions standing) (sym (ap (λ cs. fold after on.now (timed_from position index cs)) none) ∙ on.after_is) on.stands,
+  subst (EntriesStand definitions standing) (sym (ap (λ cs. fold after on.now (timed_from position index cs)) none) ∙ on.after_is) on.stands,
 )
 
 -- ---- tests
@@ -182,8 +182,8 @@ any_next p xs i x low is passes =
 -- ---- the counts of a loop
 
 module _ (definitions : List Definition) (ts : List Transaction) (i : ℕ) (t : Transaction) (within : i < length ts) (is : t ≡ get_or ts i t) (changes : List Change) (same : changes ≡ t.changes) where
-  pub total_more : (standing : Standing) (total count sum : ℕ) → total ≡ operations_behind definitions ts i → Stands definitions standing (fold after [] (timed (take i ts)))
-      → ((source : Source) (position : ℕ) → Stands definitions standing source → count ≡ count_from definitions source (timed_from position 0 changes))
+  pub total_more : (standing : Standing) (total count sum : ℕ) → total ≡ operations_behind definitions ts i → EntriesStand definitions standing (fold after [] (timed (take i ts)))
+      → ((source : Source) (position : ℕ) → EntriesStand definitions standing source → count ≡ count_from definitions source (timed_from position 0 changes))
       → sum ≡ total + count → sum ≡ operations_behind definitions ts (i + 1)
   total_more standing total count sum before stands counted adds =
       let source : Source = fold after [] (timed (take i ts)) in
@@ -191,12 +191,12 @@ module _ (definitions : List Definition) (ts : List Transaction) (i : ℕ) (t : 
       ∙ ap (λ n. operations_behind definitions ts i + n) (counted source t.position.0 stands ∙ ap (λ cs. count_from definitions source (timed_from t.position.0 0 cs)) same)
       ∙ sym (behind_more ts i t within is definitions)
 
-  pub stands_more : (old new : Standing) → Stands definitions old (fold after [] (timed (take i ts)))
-      → ((source : Source) (position : ℕ) → Stands definitions old source → Stands definitions new (fold after source (timed_from position 0 changes)))
-      → Stands definitions new (fold after [] (timed (take (i + 1) ts)))
+  pub stands_more : (old new : Standing) → EntriesStand definitions old (fold after [] (timed (take i ts)))
+      → ((source : Source) (position : ℕ) → EntriesStand definitions old source → EntriesStand definitions new (fold after source (timed_from position 0 changes)))
+      → EntriesStand definitions new (fold after [] (timed (take (i + 1) ts)))
   stands_more old new stands takes =
       let source : Source = fold after [] (timed (take i ts)) in
-      subst (Stands definitions new) (ap (λ cs. fold after source (timed_from t.position.0 0 cs)) same ∙ sym (source_more ts i t within is)) (takes source t.position.0 stands)
+      subst (EntriesStand definitions new) (ap (λ cs. fold after source (timed_from t.position.0 0 cs)) same ∙ sym (source_more ts i t within is)) (takes source t.position.0 stands)
 
 pub counts_pushed : (definitions : List Definition) (ts : List Transaction) (i sum : ℕ) (old new : List ℕ) → old ≡ map (operations_behind definitions ts) (range_with_len 0 (i + 1))
     → new ≡ old ++ sum ∷ [] → sum ≡ operations_behind definitions ts (i + 1) → new ≡ map (operations_behind definitions ts) (range_with_len 0 (i + 1 + 1))
@@ -204,5 +204,5 @@ counts_pushed definitions ts i sum old new before pushed is =
     pushed ∙ ap (λ xs. xs ++ sum ∷ []) before ∙ ap (λ n. map (operations_behind definitions ts) (range_with_len 0 (i + 1)) ++ n ∷ []) is
     ∙ sym (map-range_with_len_more (operations_behind definitions ts) 0 (i + 1) (i + 1) (omega arith))
 
-pub stands_none : (definitions : List Definition) (ts : List Transaction) (standing : Standing) → ((key : Key) → entries_in standing key ≡ []) → Stands definitions standing (fold after [] (timed (take 0 ts)))
-stands_none definitions ts standing none = subst (Stands definitions standing) (sym (none_taken ts)) none
+pub stands_none : (definitions : List Definition) (ts : List Transaction) (standing : Standing) → ((key : Key) → entries_in standing key ≡ []) → EntriesStand definitions standing (fold after [] (timed (take 0 ts)))
+stands_none definitions ts standing none = subst (EntriesStand definitions standing) (sym (none_taken ts)) none

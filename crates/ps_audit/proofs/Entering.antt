@@ -15,7 +15,7 @@ use Rattle.ps_rows.specs.Source.{Key, key_cmp}
 use Rattle.ps_rows.specs.Keys.{keys_total}
 use Rattle.ps_bucket_eval.specs.declared.placed.Placed.{Placed}
 use Rattle.ps_store.specs.Originals.{is_placed, stays}
-use Rattle.ps_store.specs.Places.{Place, pair_cmp, place_cmp, place_of, HasPlaces}
+use Rattle.ps_store.specs.Places.{Place, pair_cmp, place_cmp, entry_place, HasPlaces}
 
 -- ---- sets of places
 
@@ -32,7 +32,7 @@ regrouped true true c d = refl
 regrouped true false c d = refl
 regrouped false b c d = refl
 
-places_tied : (x entry : Placed) → is_eq (place_cmp (place_of x) (place_of entry)) ≡ is_placed entry.bucket entry x
+places_tied : (x entry : Placed) → is_eq (place_cmp (entry_place x) (entry_place entry)) ≡ is_placed entry.bucket entry x
 places_tied x entry =
     then_tied (pair_cmp (x.bucket, x.key.kind) (entry.bucket, entry.key.kind)) (pair_cmp (x.key.id, x.key.subkey) (entry.key.id, entry.key.subkey))
     ∙ ap (λ b. b && is_eq (pair_cmp (x.key.id, x.key.subkey) (entry.key.id, entry.key.subkey))) (pairs_tied x.bucket x.key.kind entry.bucket entry.key.kind)
@@ -50,12 +50,12 @@ or_turned false false = refl
 
 -- one more place is put in
 pub places_more : (xs : List Placed) (i : ℕ) (x : Placed) → i < length xs → x ≡ get_or xs i x
-    → (old new : BTreeSet Place) → ((q : Place) → contains place_cmp new q ≡ cond (is_eq (place_cmp (place_of x) q)) true (contains place_cmp old q))
+    → (old new : BTreeSet Place) → ((q : Place) → contains place_cmp new q ≡ cond (is_eq (place_cmp (entry_place x) q)) true (contains place_cmp old q))
     → HasPlaces old (take i xs) → HasPlaces new (take (i + 1) xs)
 places_more xs i x within is old new added h = λ entry.
-    added (place_of entry)
-    ∙ ap (λ b. cond b true (contains place_cmp old (place_of entry))) (places_tied x entry)
-    ∙ or_turned (is_placed entry.bucket entry x) (contains place_cmp old (place_of entry))
+    added (entry_place entry)
+    ∙ ap (λ b. cond b true (contains place_cmp old (entry_place entry))) (places_tied x entry)
+    ∙ or_turned (is_placed entry.bucket entry x) (contains place_cmp old (entry_place entry))
     ∙ ap (λ b. b || is_placed entry.bucket entry x) (h entry)
     ∙ ap (λ y. stays (take i xs) entry || is_placed entry.bucket entry y) is
     ∙ sym (list_any_more (is_placed entry.bucket entry) xs i x within)

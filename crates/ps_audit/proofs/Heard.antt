@@ -20,8 +20,8 @@ use Rattle.ps_audit.specs.declared.verdicts.Judged.{Judged}
 use Rattle.ps_audit.specs.declared.verdicts.Verdict.{Verdict}
 use Rattle.ps_audit.specs.declared.verdicts.Verdict.TheVariants.{No}
 use Rattle.ps_audit.specs.Positions.{Case}
-use Rattle.ps_audit.specs.Judging.{Progress, IsJudged, Judges, JudgesAfter, IsVerdict, asking_client, bad_request, begins_afresh, no_progress, passed, texts, with_judged}
-use Rattle.ps_audit.specs.Hearing.{IsNext, Became, Notes, MayCome, AreBreaking}
+use Rattle.ps_audit.specs.Judging.{Progress, LineIsJudged, Judges, JudgesAfter, IsVerdict, asking_client, bad_request, begins_afresh, no_progress, passed, texts, with_judged}
+use Rattle.ps_audit.specs.Hearing.{IsNextPosition, Became, Notes, MayCome, AreBreaking}
 use Rattle.ps_audit.proofs.Showing.{with_rows, took_showing, line_so, latest_rows}
 
 -- the lines that are left, judged for the plain client, give the verdict on all; the client is that one, but for its rows
@@ -35,7 +35,7 @@ leads_first case all client is = record { plain = client; shows = refl; to = λ 
 
 -- what is judged of a line does not depend on the rows that the client shows
 judged_plain : (answer : Result Event ClientFault) (case : Case) (kept : Kept) (rows : Rows) (low : ℕ) (outcome : Outcome)
-    → IsJudged answer case (with_rows rows kept) low outcome → IsJudged answer case kept low outcome
+    → LineIsJudged answer case (with_rows rows kept) low outcome → LineIsJudged answer case kept low outcome
 judged_plain (Ok Nothing) case kept rows low outcome h = h
 judged_plain (Ok (Applied op)) case kept rows low outcome h = (h.0, latest_rows rows kept h.0 h.1, h.2)
 judged_plain (Ok (Held why)) case kept rows low outcome h = h
@@ -55,18 +55,18 @@ module _ (case : Case) (all rest : List (List ℕ)) (bytes : List ℕ) (client :
   kept_is : client.kept ≡ with_rows client.kept.shown on.plain.kept
   kept_is = ap (λ (c : PlainClient). c.kept) on.shows
 
-  of_plain : (outcome : Outcome) → IsJudged (line_taken client bytes).answer case client.kept progress.position outcome
-      → IsJudged (line_taken on.plain bytes).answer case on.plain.kept progress.position outcome
+  of_plain : (outcome : Outcome) → LineIsJudged (line_taken client bytes).answer case client.kept progress.position outcome
+      → LineIsJudged (line_taken on.plain bytes).answer case on.plain.kept progress.position outcome
   of_plain outcome h =
       judged_plain (line_taken on.plain bytes).answer case on.plain.kept client.kept.shown progress.position outcome
-      (subst (λ kept. IsJudged (line_taken on.plain bytes).answer case kept progress.position outcome) kept_is
-      (subst (λ answer. IsJudged answer case client.kept progress.position outcome) (ap (λ (took : Took). took.answer) took_is) h))
+      (subst (λ kept. LineIsJudged (line_taken on.plain bytes).answer case kept progress.position outcome) kept_is
+      (subst (λ answer. LineIsJudged answer case client.kept progress.position outcome) (ap (λ (took : Took). took.answer) took_is) h))
 
   shows_next : (new : PlainClient) → new ≡ showing new.kept.shown (line_taken client bytes).client → new ≡ showing new.kept.shown (line_taken on.plain bytes).client
   shows_next new is = is ∙ ap (λ (took : Took). showing new.kept.shown took.client) took_is
 
   -- after a line that is taken
-  pub leads_passed : (new : PlainClient) → IsJudged (line_taken client bytes).answer case client.kept progress.position Taken
+  pub leads_passed : (new : PlainClient) → LineIsJudged (line_taken client bytes).answer case client.kept progress.position Taken
       → new ≡ showing new.kept.shown (line_taken client bytes).client → LeadsTo case all rest new (passed progress)
   leads_passed new judged is = record {
     plain = (line_taken on.plain bytes).client;
@@ -75,7 +75,7 @@ module _ (case : Case) (all rest : List (List ℕ)) (bytes : List ℕ) (client :
   }
 
   -- after one that completes a checkpoint
-  pub leads_completed : (new : PlainClient) (op : OpId) (position : Position) → IsJudged (line_taken client bytes).answer case client.kept progress.position (Completes op position)
+  pub leads_completed : (new : PlainClient) (op : OpId) (position : Position) → LineIsJudged (line_taken client bytes).answer case client.kept progress.position (Completes op position)
       → new ≡ showing new.kept.shown (line_taken client bytes).client → LeadsTo case all rest new (with_judged progress op position)
   leads_completed new op position judged is = record {
     plain = (line_taken on.plain bytes).client;
@@ -84,7 +84,7 @@ module _ (case : Case) (all rest : List (List ℕ)) (bytes : List ℕ) (client :
   }
 
   -- one that breaks what is owed
-  pub leads_broken : (kind : Broken) → IsJudged (line_taken client bytes).answer case client.kept progress.position (Breaks kind)
+  pub leads_broken : (kind : Broken) → LineIsJudged (line_taken client bytes).answer case client.kept progress.position (Breaks kind)
       → Judges all case no_progress asking_client (No progress.completed progress.line kind)
   leads_broken kind judged = on.to (No progress.completed progress.line kind) (Breaks kind, of_plain (Breaks kind) judged, refl)
 
@@ -124,11 +124,11 @@ not_empty (line ∷ lines) begins = omega arith
 -- ---- one line
 
 pub judged_by : (took : Took) (case : Case) (kept : Kept) (low : ℕ) (outcome : Outcome) (answer : Result Event ClientFault) → took.answer ≡ answer
-    → IsJudged answer case kept low outcome → IsJudged took.answer case kept low outcome
-judged_by took case kept low outcome answer is h = subst (λ a. IsJudged a case kept low outcome) (sym is) h
+    → LineIsJudged answer case kept low outcome → LineIsJudged took.answer case kept low outcome
+judged_by took case kept low outcome answer is h = subst (λ a. LineIsJudged a case kept low outcome) (sym is) h
 
 pub fault_judged : (fault : ClientFault) (outcome : Outcome) (took : Took) (case : Case) (kept : Kept) (low : ℕ) → IsFault took fault
-    → IsJudged (Err fault) case kept low outcome → (fault ≡ Memory → ⊥) → (fault ≡ KeeperFault → ⊥) → IsJudged took.answer case kept low outcome
+    → LineIsJudged (Err fault) case kept low outcome → (fault ≡ Memory → ⊥) → (fault ≡ KeeperFault → ⊥) → LineIsJudged took.answer case kept low outcome
 fault_judged OutOfOrder outcome took case kept low is h kept_on none = judged_by took case kept low outcome (Err OutOfOrder) is h
 fault_judged (BadLine fault) outcome took case kept low is h kept_on none = judged_by took case kept low outcome (Err (BadLine fault)) is h
 fault_judged KeeperFault outcome took case kept low is h kept_on none = absurd (none refl)
@@ -155,7 +155,7 @@ became_broken Taken took new breaks = absurd breaks
 became_broken (Completes op position) took new breaks = absurd breaks
 became_broken (Breaks kind) took new breaks = tt
 
-pub next_broken : (outcome : Outcome) (low : ℕ) → AreBreaking outcome → IsNext outcome low low
+pub next_broken : (outcome : Outcome) (low : ℕ) → AreBreaking outcome → IsNextPosition outcome low low
 next_broken Taken low breaks = absurd breaks
 next_broken (Completes op position) low breaks = absurd breaks
 next_broken (Breaks kind) low breaks = tt
@@ -178,7 +178,7 @@ module _ (case : Case) (all : List (List ℕ)) (lines : List (Vec ℕ Global)) (
   on_next : LeadsTo case all (bytes ∷ texts (drop (i + 1) lines)) client progress
   on_next = subst (λ left. LeadsTo case all left client progress) (texts_next lines i line bytes low is same) on
 
-  pub broken_at : (outcome : Outcome) (kind : Broken) → IsJudged (line_taken client bytes).answer case client.kept progress.position outcome
+  pub broken_at : (outcome : Outcome) (kind : Broken) → LineIsJudged (line_taken client bytes).answer case client.kept progress.position outcome
       → Notes outcome progress.line progress.completed completed broken → broken ≡ Some kind
       → Judges all case no_progress asking_client (No completed progress.line kind)
   broken_at Taken kind judged notes some = absurd (let e : None ≡ Some kind = sym notes.1 ∙ some in cc)
@@ -190,8 +190,8 @@ module _ (case : Case) (all : List (List ℕ)) (lines : List (Vec ℕ Global)) (
       (subst (λ done. Judges all case no_progress asking_client (No done progress.line own)) (sym notes.0)
       (leads_broken case all (texts (drop (i + 1) lines)) bytes client progress on_next own judged))
 
-  pub more_at : (outcome : Outcome) (new : PlainClient) (position : ℕ) → IsJudged (line_taken client bytes).answer case client.kept progress.position outcome
-      → Became outcome (line_taken client bytes) new → IsNext outcome progress.position position → Notes outcome progress.line progress.completed completed broken
+  pub more_at : (outcome : Outcome) (new : PlainClient) (position : ℕ) → LineIsJudged (line_taken client bytes).answer case client.kept progress.position outcome
+      → Became outcome (line_taken client bytes) new → IsNextPosition outcome progress.position position → Notes outcome progress.line progress.completed completed broken
       → ((kind : Broken) → broken ≡ Some kind → ⊥)
       → LeadsTo case all (texts (drop (i + 1) lines)) new (record { line = progress.line + 1; position = position; completed = completed })
   more_at Taken new position judged became_so next notes others =

@@ -20,8 +20,8 @@ use Rattle.ps_audit.specs.declared.verdicts.Judged.{Judged}
 use Rattle.ps_audit.specs.declared.verdicts.Verdict.{Verdict}
 use Rattle.ps_audit.specs.declared.verdicts.Verdict.TheVariants.{Yes, No}
 use Rattle.ps_audit.specs.Positions.{Case, IsLeast}
-use Rattle.ps_audit.specs.Judging.{Progress, judged, passed, with_judged, IsJudged, GoesOn, Judges, asking_client, no_progress, asks_afresh, JudgesAfter}
-use Rattle.ps_audit.specs.Meaning.{after_lines, IsTaken, HoldsDue, StandsBehind, IsRight, AreRight, Breaks, IsBroken, Says, SaysAfter, VerdictsMean}
+use Rattle.ps_audit.specs.Judging.{Progress, judged, passed, with_judged, LineIsJudged, JudgesOn, Judges, asking_client, no_progress, asks_afresh, JudgesAfter}
+use Rattle.ps_audit.specs.Meaning.{after_lines, RefusesNothing, HoldsDue, StandsBehind, IsJudgedRight, AreRight, Breaks, IsBroken, VerdictSays, SaysAfter, VerdictsMean}
 use Rattle.ps_audit.proofs.Placing.{contains_first, contains_more, contains_cases, contains_none}
 
 append_none : {X : Type 0} (xs : List X) → xs ++ [] ≡ xs
@@ -50,7 +50,7 @@ module _ (case : Case) (client : PlainClient) (bytes : List ℕ) (first : ℕ) (
   abbrev answer : Result Event ClientFault
   answer = (line_taken client bytes).answer
 
-  right_later : (judged : Judged) → IsRight case next (first + 1) lines judged → IsRight case client first (bytes ∷ lines) judged
+  right_later : (judged : Judged) → IsJudgedRight case next (first + 1) lines judged → IsJudgedRight case client first (bytes ∷ lines) judged
   right_later judged r = record {
     front = bytes ∷ r.front;
     bytes = r.bytes;
@@ -86,10 +86,10 @@ module _ (case : Case) (client : PlainClient) (bytes : List ℕ) (first : ℕ) (
       (found.0, more found.0 found.1, omega (arith, found.2), found.3)
 
   -- it is no complete line
-  pub passed_right : (low : ℕ) (completed : List Judged) → IsTaken answer → ((op : OpId) → answer ≡ Ok (Applied op) → ⊥)
+  pub passed_right : (low : ℕ) (completed : List Judged) → RefusesNothing answer → ((op : OpId) → answer ≡ Ok (Applied op) → ⊥)
       → AreRight case next (first + 1) low lines completed → AreRight case client first low (bytes ∷ lines) completed
   passed_right low completed taken other h = record {
-    taken = taken_later IsTaken taken h.taken;
+    taken = taken_later RefusesNothing taken h.taken;
     each = each_later completed completed (λ j there. there) (λ op is. absurd (other op is)) h.each;
     right = λ judged there. right_later judged (h.right judged there);
     rise = h.rise;
@@ -99,11 +99,11 @@ module _ (case : Case) (client : PlainClient) (bytes : List ℕ) (first : ℕ) (
   pub completed_right : (low : ℕ) (j : Judged) (completed : List Judged) → answer ≡ Ok (Applied j.op) → j.line ≡ first → low ≤ j.position.0 → HoldsDue case client.kept j
       → AreRight case next (first + 1) j.position.0 lines completed → AreRight case client first low (bytes ∷ lines) (j ∷ completed)
   completed_right low j completed is line late holds h = record {
-    taken = taken_later IsTaken (subst IsTaken (sym is) tt) h.taken;
+    taken = taken_later RefusesNothing (subst RefusesNothing (sym is) tt) h.taken;
     each = each_later (j ∷ completed) completed (λ other there. contains_more j other completed there)
         (λ op applied. let same : j.op ≡ op = cc in (j, contains_first j completed, omega (arith, line), same)) h.each;
     right = λ other there. elim (contains_cases j other completed there) [
-      | inl same ↦ subst (IsRight case client first (bytes ∷ lines)) same (record {
+      | inl same ↦ subst (IsJudgedRight case client first (bytes ∷ lines)) same (record {
         front = [];
         bytes = bytes;
         stands = (lines, refl);
@@ -134,7 +134,7 @@ abbrev SaysSo : Case → Progress → PlainClient → List (List ℕ) → Verdic
 SaysSo case progress client lines verdict = SaysYes case progress client lines verdict ⊎ SaysNo case progress client lines verdict
 
 -- what a line's answer was, by what is said of it
-is_passed : (answer : Result Event ClientFault) (case : Case) (kept : Kept) (low : ℕ) → IsJudged answer case kept low outcomes.Taken → IsTaken answer × ((op : OpId) → answer ≡ Ok (Applied op) → ⊥)
+is_passed : (answer : Result Event ClientFault) (case : Case) (kept : Kept) (low : ℕ) → LineIsJudged answer case kept low outcomes.Taken → RefusesNothing answer × ((op : OpId) → answer ≡ Ok (Applied op) → ⊥)
 is_passed (Ok Nothing) case kept low h = (tt, λ op is. cc)
 is_passed (Ok (Applied op)) case kept low h = absurd h.2
 is_passed (Ok (Held why)) case kept low h = (tt, λ op is. cc)
@@ -153,7 +153,7 @@ pub record IsComplete (answer : Result Event ClientFault) (case : Case) (kept : 
   pub held : AreLatestRows kept rows
   pub least : IsLeast case op.0 rows low position.0
 
-is_complete : (answer : Result Event ClientFault) (case : Case) (kept : Kept) (low : ℕ) (op : OpId) (position : Position) → IsJudged answer case kept low (outcomes.Completes op position)
+is_complete : (answer : Result Event ClientFault) (case : Case) (kept : Kept) (low : ℕ) (op : OpId) (position : Position) → LineIsJudged answer case kept low (outcomes.Completes op position)
     → IsComplete answer case kept low op position
 is_complete (Ok Nothing) case kept low op position h = absurd (cc)
 is_complete (Ok (Applied own)) case kept low op position h =
@@ -175,7 +175,7 @@ holds_due case client bytes low j h = record {
   held = subst (AreLatestRows client.kept) (sym h.least.fits.due) h.held;
 }
 
-is_breaking : (answer : Result Event ClientFault) (case : Case) (kept : Kept) (low : ℕ) (kind : Broken) → IsJudged answer case kept low (outcomes.Breaks kind) → Breaks kind case kept low answer
+is_breaking : (answer : Result Event ClientFault) (case : Case) (kept : Kept) (low : ℕ) (kind : Broken) → LineIsJudged answer case kept low (outcomes.Breaks kind) → Breaks kind case kept low answer
 is_breaking (Ok Nothing) case kept low kind h = absurd (cc)
 is_breaking (Ok (Applied op)) case kept low kind h =
     subst (λ k. Breaks k case kept low (Ok (Applied op))) (sym h.2.0) (op, h.0, refl, h.1, h.2.1)
@@ -196,7 +196,7 @@ module _ (case : Case) (progress : Progress) (client : PlainClient) (bytes : Lis
   abbrev after : PlainClient
   after = (line_taken client bytes).client
 
-  passed_so : IsJudged (line_taken client bytes).answer case client.kept progress.position outcomes.Taken
+  passed_so : LineIsJudged (line_taken client bytes).answer case client.kept progress.position outcomes.Taken
       → SaysSo case (passed progress) after lines verdict → SaysSo case progress client (bytes ∷ lines) verdict
   passed_so h (inl says) =
       let p = is_passed (line_taken client bytes).answer case client.kept progress.position h in
@@ -223,7 +223,7 @@ module _ (case : Case) (progress : Progress) (client : PlainClient) (bytes : Lis
         };
       })
 
-  completed_so : (op : OpId) (position : Position) → IsJudged (line_taken client bytes).answer case client.kept progress.position (outcomes.Completes op position)
+  completed_so : (op : OpId) (position : Position) → LineIsJudged (line_taken client bytes).answer case client.kept progress.position (outcomes.Completes op position)
       → SaysSo case (with_judged progress op position) after lines verdict → SaysSo case progress client (bytes ∷ lines) verdict
   completed_so op position h (inl says) =
       let c = is_complete (line_taken client bytes).answer case client.kept progress.position op position h in
@@ -252,7 +252,7 @@ module _ (case : Case) (progress : Progress) (client : PlainClient) (bytes : Lis
         };
       })
 
-  broken_so : (kind : Broken) → IsJudged (line_taken client bytes).answer case client.kept progress.position (outcomes.Breaks kind)
+  broken_so : (kind : Broken) → LineIsJudged (line_taken client bytes).answer case client.kept progress.position (outcomes.Breaks kind)
       → verdict ≡ No progress.completed progress.line kind → SaysSo case progress client (bytes ∷ lines) verdict
   broken_so kind h is = inr (record {
     more = [];
@@ -270,8 +270,8 @@ module _ (case : Case) (progress : Progress) (client : PlainClient) (bytes : Lis
   })
 
 judges_line : (case : Case) (progress : Progress) (client : PlainClient) (bytes : List ℕ) (lines : List (List ℕ)) (verdict : Verdict) (outcome : Outcome)
-    → IsJudged (line_taken client bytes).answer case client.kept progress.position outcome
-    → GoesOn outcome progress verdict (λ further. Judges lines case further (line_taken client bytes).client verdict)
+    → LineIsJudged (line_taken client bytes).answer case client.kept progress.position outcome
+    → JudgesOn outcome progress verdict (λ further. Judges lines case further (line_taken client bytes).client verdict)
     → ((further : Progress) → Judges lines case further (line_taken client bytes).client verdict → SaysSo case further (line_taken client bytes).client lines verdict)
     → SaysSo case progress client (bytes ∷ lines) verdict
 judges_line case progress client bytes lines verdict outcomes.Taken h rest others = passed_so case progress client bytes lines verdict h (others (passed progress) rest)
@@ -288,9 +288,9 @@ judges_so [] case progress client verdict h = inl (record {
 judges_so (bytes ∷ lines) case progress client verdict h =
     judges_line case progress client bytes lines verdict h.0 h.1 h.2 (λ further rest. judges_so lines case further (line_taken client bytes).client verdict rest)
 
-says_so : (case : Case) (lines : List (List ℕ)) (verdict : Verdict) → SaysSo case no_progress asking_client lines verdict → Says verdict case asking_client 2 0 lines
-says_so case lines verdict (inl says) = subst (λ v. Says v case asking_client 2 0 lines) (sym says.is) says.right
-says_so case lines verdict (inr says) = subst (λ v. Says v case asking_client 2 0 lines) (sym says.is) says.broken
+says_so : (case : Case) (lines : List (List ℕ)) (verdict : Verdict) → SaysSo case no_progress asking_client lines verdict → VerdictSays verdict case asking_client 2 0 lines
+says_so case lines verdict (inl says) = subst (λ v. VerdictSays v case asking_client 2 0 lines) (sym says.is) says.right
+says_so case lines verdict (inr says) = subst (λ v. VerdictSays v case asking_client 2 0 lines) (sym says.is) says.broken
 
 after_so : (b : Bool) (case : Case) (lines : List (List ℕ)) (verdict : Verdict) → JudgesAfter b case lines verdict → SaysAfter b verdict case lines
 after_so true case lines verdict h = says_so case lines verdict (judges_so lines case no_progress asking_client verdict h)

@@ -12,7 +12,7 @@ use Rattle.ps_granted.specs.Grants.{granted}
 use Rattle.ps_granted.specs.Latest.{rows_of}
 use Rattle.ps_lines.specs.Writing.{without_targets}
 use Rattle.ps_client_log.specs.Kept.{Kept}
-use Rattle.ps_client_log.specs.Rows.{row_at}
+use Rattle.ps_client_log.specs.Rows.{shown_at}
 use Rattle.ps_client.specs.declared.events.Event.{Event}
 use Rattle.ps_client.specs.declared.events.Event.TheVariants.{Nothing, Applied, Held, Refused, Expiring}
 use Rattle.ps_client.specs.declared.faults.ClientFault.{ClientFault}
@@ -25,19 +25,19 @@ use Rattle.ps_store.specs.CourseLaws.{IsLawful, CoursesAreLawful}
 use Rattle.ps_store.specs.Histories.{has_deploy, LedgersTellOneGeneration}
 use Rattle.ps_store.specs.Laws.{Rises, last_position, AreLatestRows}
 use Rattle.ps_store.specs.LedgerLaws.{fed_in, LedgersTellFeeds, LedgersTellOps, LedgersTellReach}
-use Rattle.ps_store.specs.Ledgers.{Ledger, ledger_after, fresh, IsLegal, IsLegalFrom}
+use Rattle.ps_store.specs.Ledgers.{Ledger, ledger_after, fresh_ledger, IsLegal, IsLegalFrom}
 use Rattle.ps_store.specs.Originals.{original}
 use Rattle.ps_store.specs.StepLaws.{transactions_upto}
 use Rattle.ps_streams.specs.Headline.{Local, Headline, Meets, AreHonest, IsGood}
 use Rattle.ps_streams.specs.Led.{EmptyAreHonest}
 use Rattle.ps_streams.specs.Runs.{Made}
-use Rattle.ps_streams.specs.TakePlaces.{Rise, place_of, LinesRise}
+use Rattle.ps_streams.specs.TakePlaces.{PlacesNeverFall, take_place, LinesRise}
 use Rattle.ps_audit.specs.declared.outcomes.Outcome.{Outcome}
 use Rattle.ps_audit.specs.declared.outcomes.Outcome.TheVariants as outcomes
 use Rattle.ps_audit.specs.declared.verdicts.Broken.{Broken}
 use Rattle.ps_audit.specs.declared.verdicts.Verdict.{Verdict}
-use Rattle.ps_audit.specs.Positions.{Case, IsPosition, Fits, IsLeast}
-use Rattle.ps_audit.specs.Judging.{Progress, passed, with_judged, IsJudged, GoesOn, Judges, asking_client, no_progress, JudgesAfter}
+use Rattle.ps_audit.specs.Positions.{Case, IsPosition, PositionFits, IsLeast}
+use Rattle.ps_audit.specs.Judging.{Progress, passed, with_judged, LineIsJudged, JudgesOn, Judges, asking_client, no_progress, JudgesAfter}
 use Rattle.ps_audit.specs.Honest.{IsFed, begun, AreRecorded, IsYes, HonestStreamsPass}
 use Rattle.ps_audit.proofs.Placing.{is_le, not_le, contains_cases, contains_none, last_above, behind_known}
 
@@ -110,7 +110,7 @@ below_last q last (t ∷ ts) u h there up = by (nat_le t.position.0 q) refl (con
 
 pub record FitsWithin (case : Case) (op : ℕ) (rows : List Shown) (low q : ℕ) : Type 0 where
   pub position : ℕ
-  pub fits : Fits case op rows low position
+  pub fits : PositionFits case op rows low position
   pub at_most : position ≤ q
 
 upto_last : (q last : ℕ) (ts : List Transaction) → Rises last ts → last ≤ q → transactions_upto (last_position last (transactions_upto q ts)) ts ≡ transactions_upto q ts
@@ -211,7 +211,7 @@ module _ (case : Case) (rules : RuleSet) (history : List StoreEvent) (later : Li
   is_of_file n =
       let front = take n history in
       let l : Ledger = ledger_at rules history n in
-      let legal : IsLegal rules front = legal_at history (fresh rules) n fed.legal in
+      let legal : IsLegal rules front = legal_at history (fresh_ledger rules) n fed.legal in
       let single : has_deploy front ≡ false = one_at history n fed.one in
       let split = fed_at history n in
       let whole : case.transactions ≡ l.fed ++ (split.0 ++ later) =
@@ -235,7 +235,7 @@ abbrev local_of : PlainClient → Local
 local_of client = record { queue = client.kept.queue; target = client.kept.target; shown = client.kept.shown }
 
 -- rows that a client holds, as a map
-held_as_map : (kept : Kept) (listed : List Shown) → AreLatestRows kept listed → AreHeld kept (λ kind id. row_at (kind, id) listed)
+held_as_map : (kept : Kept) (listed : List Shown) → AreLatestRows kept listed → AreHeld kept (λ kind id. shown_at (kind, id) listed)
 held_as_map kept listed h = record { latest = λ object. h.latest object; all = λ copy there. h.all copy there }
 
 module _ (case : Case) (course : Course) (rises : Rises 0 case.transactions) (file : (n : ℕ) → IsOfFile case course n) where
@@ -244,13 +244,13 @@ module _ (case : Case) (course : Course) (rises : Rises 0 case.transactions) (fi
       → IsGood course at kept (Ok (Applied op)) → AreLatestRows kept rows → FitsWithin case op.0 rows low (course.take at).position.0
   fits_there at kept op rows low known late good held =
       let here = file at in
-      let listed : rows ≡ course.due at = good.rows (λ kind id. row_at (kind, id) rows) rows (held_as_map kept rows held) (record { in_order = held.in_order; each = λ object. refl }) in
+      let listed : rows ≡ course.due at = good.rows (λ kind id. shown_at (kind, id) rows) rows (held_as_map kept rows held) (record { in_order = held.in_order; each = λ object. refl }) in
       let found = fits_within case op.0 rows low here.position rises known (omega (arith, late, here.is)) (here.operations ∙ sym good.op_is) (here.due ∙ sym listed) in
       record { position = found.position; fits = found.fits; at_most = omega (arith, found.at_most, here.is) }
 
   -- so such a line breaks nothing
   none_breaks : (answer : Result Event ClientFault) (at : ℕ) (kept : Kept) (low : ℕ) (kind : Broken) → IsPosition case low → low ≤ (course.take at).position.0
-      → IsGood course at kept answer → IsJudged answer case kept low (outcomes.Breaks kind) → ⊥
+      → IsGood course at kept answer → LineIsJudged answer case kept low (outcomes.Breaks kind) → ⊥
   none_breaks (Ok Nothing) at kept low kind known late good h = cc
   none_breaks (Ok (Applied op)) at kept low kind known late good h =
       let found = fits_there at kept op h.0 low known late good h.1 in h.2.1 found.position found.fits
@@ -265,7 +265,7 @@ module _ (case : Case) (course : Course) (rises : Rises 0 case.transactions) (fi
     pub at_most : position ≤ (course.take at).position.0
 
   found_within : (answer : Result Event ClientFault) (at : ℕ) (kept : Kept) (low : ℕ) (op : OpId) (position : Position) → IsPosition case low → low ≤ (course.take at).position.0
-      → IsGood course at kept answer → IsJudged answer case kept low (outcomes.Completes op position) → IsWithin low at position.0
+      → IsGood course at kept answer → LineIsJudged answer case kept low (outcomes.Completes op position) → IsWithin low at position.0
   found_within (Ok Nothing) at kept low op position known late good h = absurd (cc)
   found_within (Ok (Applied own)) at kept low op position known late good h =
       let found = fits_there at kept own h.0 low known late good h.1 in
@@ -280,8 +280,8 @@ module _ (case : Case) (course : Course) (rises : Rises 0 case.transactions) (fi
   passes_line : (at : ℕ) (client : PlainClient) (bytes : List ℕ) (lines : List (List ℕ)) (progress : Progress) (verdict : Verdict)
       → IsGood course at client.kept (line_taken client bytes).answer → IsPosition case progress.position → progress.position ≤ (course.take at).position.0
       → ((further : Progress) → IsPosition case further.position → further.position ≤ (course.take at).position.0 → Judges lines case further (line_taken client bytes).client verdict → IsYes verdict)
-      → (outcome : Outcome) → IsJudged (line_taken client bytes).answer case client.kept progress.position outcome
-      → GoesOn outcome progress verdict (λ further. Judges lines case further (line_taken client bytes).client verdict) → IsYes verdict
+      → (outcome : Outcome) → LineIsJudged (line_taken client bytes).answer case client.kept progress.position outcome
+      → JudgesOn outcome progress verdict (λ further. Judges lines case further (line_taken client bytes).client verdict) → IsYes verdict
   passes_line at client bytes lines progress verdict good known late others outcomes.Taken judged rest = others (passed progress) known late rest
   passes_line at client bytes lines progress verdict good known late others (outcomes.Completes op position) judged rest =
       let found = found_within (line_taken client bytes).answer at client.kept progress.position op position known late good judged in
@@ -290,7 +290,7 @@ module _ (case : Case) (course : Course) (rises : Rises 0 case.transactions) (fi
       absurd (none_breaks (line_taken client bytes).answer at client.kept progress.position kind known late good judged)
 
   passes : IsLawful course → (end high : ℕ) (front : List Made) (lines : List (List ℕ)) (progress : Progress) (client : PlainClient) (verdict : Verdict) (place : ℕ)
-      → AreRecorded front lines → Rise place (map place_of front) high → IsPosition case progress.position → progress.position ≤ (course.take place).position.0
+      → AreRecorded front lines → PlacesNeverFall place (map take_place front) high → IsPosition case progress.position → progress.position ≤ (course.take place).position.0
       → Meets course end client front → Judges lines case progress client verdict → IsYes verdict
   passes lawful end high [] [] progress client verdict place recorded rise known late meets judges = subst IsYes (sym judges) tt
   passes lawful end high [] (bytes ∷ lines) progress client verdict place recorded rise known late meets judges = absurd recorded
@@ -314,7 +314,7 @@ module _ (case : Case) (course : Course) (rises : Rises 0 case.transactions) (fi
 
 -- ---- whole streams
 
-rise_front : (low high : ℕ) (front back : List Made) → Rise low (map place_of (front ++ back)) high → (end : ℕ) × Rise low (map place_of front) end
+rise_front : (low high : ℕ) (front back : List Made) → PlacesNeverFall low (map take_place (front ++ back)) high → (end : ℕ) × PlacesNeverFall low (map take_place front) end
 rise_front low high [] back h = (low, omega arith)
 rise_front low high (m ∷ ms) back h = let rest = rise_front m.at high ms back h.1 in (rest.0, (h.0, rest.1))
 
@@ -327,7 +327,7 @@ passes_all headline lines_rise empty lawful_all feeds ops one reach case rules (
     let meets : Meets course stream.end asking_client stream.front =
     headline course stream.start stream.end stream.turns (λ name. 0) asking_client stream.front stream.back lawful stream.climbs stream.told honest refl (λ name. refl) stream.made in
     let rise = lines_rise course stream.start stream.start stream.end begun stream.turns (omega arith) stream.climbs in
-    let front_rise = rise_front stream.start stream.end stream.front stream.back (subst (λ ms. Rise stream.start (map place_of ms) stream.end) stream.made rise) in
+    let front_rise = rise_front stream.start stream.end stream.front stream.back (subst (λ ms. PlacesNeverFall stream.start (map take_place ms) stream.end) stream.made rise) in
     let judges : Judges lines case no_progress asking_client verdict = subst (λ b. JudgesAfter b case lines verdict) afresh judged in
     passes case course rises (is_of_file case rules stream.history stream.later rises stream.is_fed feeds ops one reach) lawful stream.end front_rise.0 stream.front lines no_progress asking_client verdict stream.start
     stream.recorded front_rise.1 (inl refl) (omega arith) meets judges

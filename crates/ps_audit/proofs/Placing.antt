@@ -13,9 +13,9 @@ use Rattle.ps_store.specs.Originals.{original}
 use Rattle.ps_store.specs.StepLaws.{transactions_upto}
 use Rattle.ps_definitions.specs.declared.definitions.Definition.{Definition}
 use Rattle.ps_audit.specs.Counts.{operations_behind, AreCounts}
-use Rattle.ps_audit.specs.Places.{FitsAt, NoneFitsBelow, StandsAt, position_behind, source_behind}
+use Rattle.ps_audit.specs.Places.{FitsAt, NoneFitsBelow, CursorStandsAt, position_behind, source_behind}
 use Rattle.ps_audit.specs.declared.cursors.Cursor.{Cursor}
-use Rattle.ps_audit.specs.Positions.{Case, due_at, due_over, Fits, IsLeast, NoneFits}
+use Rattle.ps_audit.specs.Positions.{Case, due_at, due_over, PositionFits, IsLeast, NoneFits}
 
 pub is_le : (a b : ℕ) → a ≤ b → nat_le a b ≡ true
 is_le a b h = grind (arith, nat_tests)
@@ -122,7 +122,7 @@ module _ (case : Case) (op : ℕ) (rows : List Shown) (rises : Rises 0 case.tran
       cases : (k n : ℕ) → k ≤ n → (k ≡ n) ⊎ (k < n)
       cases k n low = elim (cases_lt k n) [ inl below ↦ inr below | inr at ↦ inl (omega arith) ]
 
-  pub fits_from : (k n : ℕ) → k ≤ n → n ≤ length case.transactions → FitsAt case op rows n → Fits case op rows (position_behind case k) (position_behind case n)
+  pub fits_from : (k n : ℕ) → k ≤ n → n ≤ length case.transactions → FitsAt case op rows n → PositionFits case op rows (position_behind case k) (position_behind case n)
   fits_from k n low within fits = record {
     late = not_above k n low within;
     known = behind_known 0 n case.transactions;
@@ -130,13 +130,13 @@ module _ (case : Case) (op : ℕ) (rows : List Shown) (rises : Rises 0 case.tran
     due = fits.due;
   }
 
-  pub fits_at : (n p : ℕ) (low : ℕ) → position_behind case n ≡ p → Fits case op rows low p → FitsAt case op rows n
+  pub fits_at : (n p : ℕ) (low : ℕ) → position_behind case n ≡ p → PositionFits case op rows low p → FitsAt case op rows n
   fits_at n p low is fits = record {
     operations = ap (λ ts. length (original case.definitions ts)) (sym (upto_take 0 n case.transactions rises)) ∙ subst (λ q. length (original case.definitions (transactions_upto q case.transactions)) ≡ op) (sym is) fits.operations;
     due = subst (λ q. due_at case q ≡ rows) (sym is) fits.due;
   }
 
-  place_of : (p : ℕ) (low : ℕ) → Fits case op rows low p → IsBehind 0 case.transactions p
+  place_of : (p : ℕ) (low : ℕ) → PositionFits case op rows low p → IsBehind 0 case.transactions p
   place_of p low fits = elim fits.known [
     | inl none ↦ record { n = 0; within = omega arith; is = first case.transactions ∙ sym none }
     | inr there ↦ let at = place_in 0 case.transactions there.0 there.1 in record { n = at.n; within = at.within; is = at.is ∙ there.2 }
@@ -212,7 +212,7 @@ pub none_at_end : (case : Case) (op : ℕ) (rows : List Shown) (low high end : �
 none_at_end case op rows low high end a b none not =
     let same : high ≡ end = omega arith in subst (λ h. NoneFitsBelow case op rows low (h + 1)) same (none_more case op rows low high none not)
 
-pub stands_first : (case : Case) (cursor : Cursor) → cursor.place ≡ 0 → cursor.position.0 ≡ 0 → cursor.source ≡ [] → StandsAt case cursor
+pub stands_first : (case : Case) (cursor : Cursor) → cursor.place ≡ 0 → cursor.position.0 ≡ 0 → cursor.source ≡ [] → CursorStandsAt case cursor
 stands_first case cursor place position source = record {
   within = omega (arith, place);
   position = position ∙ sym (ap (position_behind case) place ∙ first case.transactions);

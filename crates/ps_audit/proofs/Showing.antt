@@ -13,7 +13,7 @@ use Rattle.ps_lines.specs.declared.lines.Line.{Line}
 use Rattle.ps_lines.specs.declared.lines.Line.TheVariants.{Checkpoint, Diff, Data, Complete, Expires, Unknown}
 use Rattle.ps_lines.specs.Reading.{line_of}
 use Rattle.ps_client_log.specs.Kept.{Kept}
-use Rattle.ps_client_log.specs.Rows.{IsLatestContent, row_at, AreInOrder}
+use Rattle.ps_client_log.specs.Rows.{IsLatestContent, shown_at, AreInOrder}
 use Rattle.ps_client.specs.declared.events.Differing.{Differing}
 use Rattle.ps_client.specs.declared.events.Why.{Why}
 use Rattle.ps_client.specs.declared.streams.Stream.{Stream}
@@ -105,12 +105,12 @@ some_latest rows kept object (Some content) h = latest_content rows kept object 
 pub latest_rows : (rows : Rows) (kept : Kept) (listed : List Shown) → AreLatestRows (with_rows rows kept) listed → AreLatestRows kept listed
 latest_rows rows kept listed h = record {
   in_order = h.in_order;
-  latest = λ object. some_latest rows kept object (row_at object listed) (h.latest object);
+  latest = λ object. some_latest rows kept object (shown_at object listed) (h.latest object);
   all = h.all;
 }
 
 -- rows in order that are those that are shown, where these are held
-pub listed_rows : (kept : Kept) (shown : Rows) (listed : List Shown) → AreInOrder listed → ((object : Object) → row_at object listed ≡ shown object.0 object.1)
+pub listed_rows : (kept : Kept) (shown : Rows) (listed : List Shown) → AreInOrder listed → ((object : Object) → shown_at object listed ≡ shown object.0 object.1)
     → AreHeld kept shown → AreLatestRows kept listed
 listed_rows kept shown listed in_order each held = record {
   in_order = in_order;

@@ -55,8 +55,8 @@ abbrev pub entries_in : Standing → Key → List Placed
 entries_in standing key = unwrap_or (get key_cmp standing.entries key) []
 
 -- of each row the entries that it has in a source
-abbrev pub Stands : List Definition → Standing → Source → Type 0
-Stands definitions standing source = (key : Key) → entries_in standing key ≡ standing_entries definitions source key
+abbrev pub EntriesStand : List Definition → Standing → Source → Type 0
+EntriesStand definitions standing source = (key : Key) → entries_in standing key ≡ standing_entries definitions source key
 
 -- a change at a moment
 abbrev pub timed_at : ℕ → ℕ → Change → Timed

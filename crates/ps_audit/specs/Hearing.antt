@@ -10,10 +10,10 @@ use Rattle.ps_audit.specs.declared.verdicts.Broken.{Broken}
 use Rattle.ps_audit.specs.declared.verdicts.Judged.{Judged}
 
 -- the position of the last complete line after one
-abbrev pub IsNext : Outcome → ℕ → ℕ → Type 0
-IsNext Taken low position = position ≡ low
-IsNext (Completes op own) low position = position ≡ own.0
-IsNext (Breaks kind) low position = Unit {0}
+abbrev pub IsNextPosition : Outcome → ℕ → ℕ → Type 0
+IsNextPosition Taken low position = position ≡ low
+IsNextPosition (Completes op own) low position = position ≡ own.0
+IsNextPosition (Breaks kind) low position = Unit {0}
 
 -- a client took the line, but for the rows that it shows
 abbrev pub Became : Outcome → Took → PlainClient → Type 0

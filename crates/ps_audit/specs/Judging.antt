@@ -28,24 +28,24 @@ use Rattle.ps_audit.specs.Positions.{Case, IsLeast, NoneFits}
 -- ---- one line
 
 -- a complete line is judged by the rows that the client holds: the least position that fits, or there is none
-abbrev pub IsSettled : Case → OpId → List Shown → ℕ → Outcome → Type 0
-IsSettled case op rows low Taken = ⊥
-IsSettled case op rows low (Completes own position) = (own ≡ op) × IsLeast case op.0 rows low position.0
-IsSettled case op rows low (Breaks kind) = (kind ≡ kinds.NoPosition) × NoneFits case op.0 rows low
+abbrev pub CompleteIsJudged : Case → OpId → List Shown → ℕ → Outcome → Type 0
+CompleteIsJudged case op rows low Taken = ⊥
+CompleteIsJudged case op rows low (Completes own position) = (own ≡ op) × IsLeast case op.0 rows low position.0
+CompleteIsJudged case op rows low (Breaks kind) = (kind ≡ kinds.NoPosition) × NoneFits case op.0 rows low
 
 -- what is said of a line to which the client, which keeps this before it, answers so, where the last complete line has this position
-abbrev pub IsJudged : Result Event ClientFault → Case → Kept → ℕ → Outcome → Type 0
-IsJudged (Ok Nothing) case kept low outcome = outcome ≡ Taken
-IsJudged (Ok (Applied op)) case kept low outcome = (rows : List Shown) × AreLatestRows kept rows × IsSettled case op rows low outcome
-IsJudged (Ok (Held why)) case kept low outcome = outcome ≡ Taken
-IsJudged (Ok (Refused buckets)) case kept low outcome = outcome ≡ Breaks kinds.Checksum
-IsJudged (Ok (Expiring seconds)) case kept low outcome = outcome ≡ Taken
-IsJudged (Err OutOfOrder) case kept low outcome = outcome ≡ Breaks kinds.OutOfOrder
-IsJudged (Err (BadLine fault)) case kept low outcome = outcome ≡ Breaks kinds.BadLine
-IsJudged (Err KeeperFault) case kept low outcome = ⊥
-IsJudged (Err QueueEmpty) case kept low outcome = ⊥
-IsJudged (Err (QueueWaiting length)) case kept low outcome = ⊥
-IsJudged (Err Memory) case kept low outcome = ⊥
+abbrev pub LineIsJudged : Result Event ClientFault → Case → Kept → ℕ → Outcome → Type 0
+LineIsJudged (Ok Nothing) case kept low outcome = outcome ≡ Taken
+LineIsJudged (Ok (Applied op)) case kept low outcome = (rows : List Shown) × AreLatestRows kept rows × CompleteIsJudged case op rows low outcome
+LineIsJudged (Ok (Held why)) case kept low outcome = outcome ≡ Taken
+LineIsJudged (Ok (Refused buckets)) case kept low outcome = outcome ≡ Breaks kinds.Checksum
+LineIsJudged (Ok (Expiring seconds)) case kept low outcome = outcome ≡ Taken
+LineIsJudged (Err OutOfOrder) case kept low outcome = outcome ≡ Breaks kinds.OutOfOrder
+LineIsJudged (Err (BadLine fault)) case kept low outcome = outcome ≡ Breaks kinds.BadLine
+LineIsJudged (Err KeeperFault) case kept low outcome = ⊥
+LineIsJudged (Err QueueEmpty) case kept low outcome = ⊥
+LineIsJudged (Err (QueueWaiting length)) case kept low outcome = ⊥
+LineIsJudged (Err Memory) case kept low outcome = ⊥
 
 -- ---- all lines
 
@@ -69,16 +69,16 @@ with_judged progress op position = record {
 }
 
 -- the lines go on being judged after one, or it is the one that fails
-abbrev pub GoesOn : Outcome → Progress → Verdict → (Progress → Type 0) → Type 0
-GoesOn Taken progress verdict rest = rest (passed progress)
-GoesOn (Completes op position) progress verdict rest = rest (with_judged progress op position)
-GoesOn (Breaks kind) progress verdict rest = verdict ≡ No progress.completed progress.line kind
+abbrev pub JudgesOn : Outcome → Progress → Verdict → (Progress → Type 0) → Type 0
+JudgesOn Taken progress verdict rest = rest (passed progress)
+JudgesOn (Completes op position) progress verdict rest = rest (with_judged progress op position)
+JudgesOn (Breaks kind) progress verdict rest = verdict ≡ No progress.completed progress.line kind
 
 abbrev pub Judges : List (List ℕ) → Case → Progress → PlainClient → Verdict → Type 0
 Judges [] case progress client verdict = verdict ≡ Yes progress.completed
 Judges (bytes ∷ lines) case progress client verdict = (outcome : Outcome)
-    × IsJudged (line_taken client bytes).answer case client.kept progress.position outcome
-    × GoesOn outcome progress verdict (λ next. Judges lines case next (line_taken client bytes).client verdict)
+    × LineIsJudged (line_taken client bytes).answer case client.kept progress.position outcome
+    × JudgesOn outcome progress verdict (λ next. Judges lines case next (line_taken client bytes).client verdict)
 
 -- ---- a whole stream
 

@@ -26,13 +26,13 @@ after_lines client [] = client
 after_lines client (bytes ∷ lines) = after_lines (line_taken client bytes).client lines
 
 -- an answer refuses nothing
-abbrev pub IsTaken : Result Event ClientFault → Type 0
-IsTaken (Ok Nothing) = Unit {0}
-IsTaken (Ok (Applied op)) = Unit {0}
-IsTaken (Ok (Held why)) = Unit {0}
-IsTaken (Ok (Refused buckets)) = ⊥
-IsTaken (Ok (Expiring seconds)) = Unit {0}
-IsTaken (Err fault) = ⊥
+abbrev pub RefusesNothing : Result Event ClientFault → Type 0
+RefusesNothing (Ok Nothing) = Unit {0}
+RefusesNothing (Ok (Applied op)) = Unit {0}
+RefusesNothing (Ok (Held why)) = Unit {0}
+RefusesNothing (Ok (Refused buckets)) = ⊥
+RefusesNothing (Ok (Expiring seconds)) = Unit {0}
+RefusesNothing (Err fault) = ⊥
 
 -- a client holds exactly what is due at a complete line's position, and so many operations are made up to it as the line's op says
 pub record HoldsDue (case : Case) (kept : Kept) (judged : Judged) : Type 0 where
@@ -50,7 +50,7 @@ NeverFall low [] = Unit {0}
 NeverFall low (judged ∷ more) = (low ≤ judged.position.0) × NeverFall judged.position.0 more
 
 -- the line is one of a stream, with its number and op, and there the client holds exactly what is due
-pub record IsRight (case : Case) (client : PlainClient) (first : ℕ) (lines : List (List ℕ)) (judged : Judged) : Type 0 where
+pub record IsJudgedRight (case : Case) (client : PlainClient) (first : ℕ) (lines : List (List ℕ)) (judged : Judged) : Type 0 where
   pub front : List (List ℕ)
   pub bytes : List ℕ
   pub stands : StandsBehind front bytes lines
@@ -60,11 +60,11 @@ pub record IsRight (case : Case) (client : PlainClient) (first : ℕ) (lines : L
 
 -- A client takes lines, numbered from a first one, refusing none; what is completed are its complete lines, each right, and their positions do not fall.
 pub record AreRight (case : Case) (client : PlainClient) (first low : ℕ) (lines : List (List ℕ)) (completed : List Judged) : Type 0 where
-  pub taken : (front : List (List ℕ)) (bytes : List ℕ) → StandsBehind front bytes lines → IsTaken (line_taken (after_lines client front) bytes).answer
+  pub taken : (front : List (List ℕ)) (bytes : List ℕ) → StandsBehind front bytes lines → RefusesNothing (line_taken (after_lines client front) bytes).answer
   pub each : (front : List (List ℕ)) (bytes : List ℕ) (op : OpId) → StandsBehind front bytes lines
       → (line_taken (after_lines client front) bytes).answer ≡ Ok (Applied op)
       → (judged : Judged) × Contains completed judged × (judged.line ≡ first + length front) × (judged.op ≡ op)
-  pub right : (judged : Judged) → Contains completed judged → IsRight case client first lines judged
+  pub right : (judged : Judged) → Contains completed judged → IsJudgedRight case client first lines judged
   pub rise : NeverFall low completed
 
 -- the position of the last one, or a former one
@@ -90,21 +90,21 @@ pub record IsBroken (case : Case) (client : PlainClient) (first low : ℕ) (line
   pub breaks : Breaks kind case (after_lines client front).kept (last_position low completed) (line_taken (after_lines client front) bytes).answer
 
 -- what a verdict on the lines of a stream says
-abbrev pub Says : Verdict → Case → PlainClient → ℕ → ℕ → List (List ℕ) → Type 0
-Says (Yes completed) case client first low lines = AreRight case client first low lines completed
-Says (No completed line kind) case client first low lines = IsBroken case client first low lines completed line kind
+abbrev pub VerdictSays : Verdict → Case → PlainClient → ℕ → ℕ → List (List ℕ) → Type 0
+VerdictSays (Yes completed) case client first low lines = AreRight case client first low lines completed
+VerdictSays (No completed line kind) case client first low lines = IsBroken case client first low lines completed line kind
 
 -- ---- a whole stream
 
 abbrev pub SaysAfter : Bool → Verdict → Case → List (List ℕ) → Type 0
-SaysAfter true verdict case lines = Says verdict case asking_client 2 0 lines
+SaysAfter true verdict case lines = VerdictSays verdict case asking_client 2 0 lines
 SaysAfter false verdict case lines = verdict ≡ bad_request
 
 -- the first line is no request of a client that holds nothing; else what the verdict says of the others
-abbrev pub Means : Verdict → Case → List (List ℕ) → Type 0
-Means verdict case [] = verdict ≡ bad_request
-Means verdict case (request ∷ lines) = SaysAfter (asks_afresh (body_of request)) verdict case lines
+abbrev pub VerdictMeans : Verdict → Case → List (List ℕ) → Type 0
+VerdictMeans verdict case [] = verdict ≡ bad_request
+VerdictMeans verdict case (request ∷ lines) = SaysAfter (asks_afresh (body_of request)) verdict case lines
 
 -- so it is with each verdict
 abbrev pub VerdictsMean : Type 0
-VerdictsMean = (case : Case) (lines : List (List ℕ)) (verdict : Verdict) → IsVerdict case lines verdict → Means verdict case lines
+VerdictsMean = (case : Case) (lines : List (List ℕ)) (verdict : Verdict) → IsVerdict case lines verdict → VerdictMeans verdict case lines

@@ -16,7 +16,7 @@ case_of subject = record {
   asker = subject.asker.now;
 }
 
-pub record IsCounted (subject : Subject) : Type 0 where
+pub record HasCounts (subject : Subject) : Type 0 where
   pub rises : Rises 0 subject.transactions.now
   pub counts : AreCounts subject.rules.now.definitions subject.transactions.now subject.counts.items
 
@@ -29,7 +29,7 @@ abbrev pub source_behind : Case → ℕ → Source
 source_behind case n = after_transactions (take n case.transactions) []
 
 -- where a cursor stands
-pub record StandsAt (case : Case) (cursor : Cursor) : Type 0 where
+pub record CursorStandsAt (case : Case) (cursor : Cursor) : Type 0 where
   pub within : cursor.place ≤ length case.transactions
   pub position : cursor.position.0 ≡ position_behind case cursor.place
   pub source : cursor.source ≡ source_behind case cursor.place

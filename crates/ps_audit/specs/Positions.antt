@@ -37,7 +37,7 @@ abbrev pub IsPosition : Case → ℕ → Type 0
 IsPosition case position = (position ≡ 0) ⊎ ((t : Transaction) × Contains case.transactions t × (t.position.0 ≡ position))
 
 -- A position of the source, not below a former one, fits an op and rows: so many operations are made up to it, and these rows are due there.
-pub record Fits (case : Case) (op : ℕ) (rows : List Shown) (low position : ℕ) : Type 0 where
+pub record PositionFits (case : Case) (op : ℕ) (rows : List Shown) (low position : ℕ) : Type 0 where
   pub late : low ≤ position
   pub known : IsPosition case position
   pub operations : operations_at case position ≡ op
@@ -45,9 +45,9 @@ pub record Fits (case : Case) (op : ℕ) (rows : List Shown) (low position : ℕ
 
 -- the least such position
 pub record IsLeast (case : Case) (op : ℕ) (rows : List Shown) (low position : ℕ) : Type 0 where
-  pub fits : Fits case op rows low position
-  pub least : (other : ℕ) → Fits case op rows low other → position ≤ other
+  pub fits : PositionFits case op rows low position
+  pub least : (other : ℕ) → PositionFits case op rows low other → position ≤ other
 
 -- there is none
 abbrev pub NoneFits : Case → ℕ → List Shown → ℕ → Type 0
-NoneFits case op rows low = (position : ℕ) → ¬ (Fits case op rows low position)
+NoneFits case op rows low = (position : ℕ) → ¬ (PositionFits case op rows low position)

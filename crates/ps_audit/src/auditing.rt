@@ -6,14 +6,13 @@ ghost use Rattle.ps_store.specs.Laws.{Rises};
 ghost use Rattle.ps_audit.specs.Counts.{has_wide, TellsWide};
 ghost use Rattle.ps_audit.specs.Honest.{PassesHonest};
 ghost use Rattle.ps_audit.specs.Judging.{asks_afresh, begins_afresh as begins_with_request, bad_request, texts, IsVerdict};
-ghost use Rattle.ps_audit.specs.Meaning.{Means};
+ghost use Rattle.ps_audit.specs.Meaning.{VerdictMeans};
 ghost use Rattle.ps_audit.specs.Positions.{case_for};
 
 use crate::counting::count_all;
 use crate::hearing::hear_all;
-use crate::laws::{honest_streams_pass, verdicts_mean};
 use crate::subjects::Subject;
-use crate::{AuditFault, Broken, Verdict};
+use crate::{AuditFault, Broken, Verdict, laws};
 use ps_data::{Items, Memory};
 use ps_definitions::Rules;
 use ps_lines::{LineFault, read_body};
@@ -69,12 +68,12 @@ pub fn audit(
     ensures verdict { IfOk result (IsVerdict (case_for rules.now transactions.now asker.now) (texts lines.now)) }
     ensures wide { TellsWide (has_wide rules.now.definitions transactions.now) result }
     // What Yes and No mean.
-    ensures means { IfOk result (λ verdict. Means verdict (case_for rules.now transactions.now asker.now) (texts lines.now)) }
+    ensures means { IfOk result (λ verdict. VerdictMeans verdict (case_for rules.now transactions.now asker.now) (texts lines.now)) }
     // A front of the lines that an honest service wrote for such a request is answered with Yes, whatever happened between them.
     ensures honest { IfOk result (PassesHonest (texts lines.now) (case_for rules.now transactions.now asker.now) rules.now) }
 {
-    verdicts_mean();
-    honest_streams_pass();
+    laws::verdicts_mean();
+    laws::honest_streams_pass();
     let counts = count_all(alloc, rules, transactions)?;
     if !begins_afresh(alloc, lines)? {
         return Ok(refused(alloc));

@@ -3,7 +3,7 @@
 ghost use Rattle.std.specs.Prelude.{◌≡◌, ◌+◌, ◌^◌, ℕ, IfOk, OnOk, MatchResult, fold};
 ghost use Rattle.ps_rows.specs.Source.{Source as SourceSeen};
 ghost use Rattle.ps_store.specs.Originals.{after, entries_at as entries_of_key, timed_from};
-ghost use Rattle.ps_audit.specs.Counts.{is_wide, has_wide_change, has_wide, TellsWide, change_count, count_from, AreCounts, Stands, timed_at};
+ghost use Rattle.ps_audit.specs.Counts.{is_wide, has_wide_change, has_wide, TellsWide, change_count, count_from, AreCounts, EntriesStand, timed_at};
 
 use crate::AuditFault;
 use crate::standing::Standing;
@@ -49,10 +49,10 @@ fn count_change(
     change: &Change,
 ) -> Result<u64, AuditFault>
     ensures wide { TellsWide (is_wide rules.now.definitions change.now) result }
-    ensures counted { IfOk result (λ count. (source : SourceSeen) (position index : ℕ) → Stands rules.now.definitions standing.old source
+    ensures counted { IfOk result (λ count. (source : SourceSeen) (position index : ℕ) → EntriesStand rules.now.definitions standing.old source
         → count ≡ change_count rules.now.definitions source (timed_at position index change.now)) }
-    ensures stands { OnOk result ((source : SourceSeen) (position index : ℕ) → Stands rules.now.definitions standing.old source
-        → Stands rules.now.definitions standing.new (after source (timed_at position index change.now))) }
+    ensures stands { OnOk result ((source : SourceSeen) (position index : ℕ) → EntriesStand rules.now.definitions standing.old source
+        → EntriesStand rules.now.definitions standing.new (after source (timed_at position index change.now))) }
 {
     let entries = entries_after(alloc, rules, change)?;
     let key = (change.table.copy(alloc)?, change.id.copy(alloc)?);
@@ -70,10 +70,10 @@ fn count_changes(
     changes: &[Change],
 ) -> Result<u64, AuditFault>
     ensures wide { TellsWide (has_wide_change rules.now.definitions changes.now) result }
-    ensures counted { IfOk result (λ count. (source : SourceSeen) (position : ℕ) → Stands rules.now.definitions standing.old source
+    ensures counted { IfOk result (λ count. (source : SourceSeen) (position : ℕ) → EntriesStand rules.now.definitions standing.old source
         → count ≡ count_from rules.now.definitions source (timed_from position 0 changes.now)) }
-    ensures stands { OnOk result ((source : SourceSeen) (position : ℕ) → Stands rules.now.definitions standing.old source
-        → Stands rules.now.definitions standing.new (fold after source (timed_from position 0 changes.now))) }
+    ensures stands { OnOk result ((source : SourceSeen) (position : ℕ) → EntriesStand rules.now.definitions standing.old source
+        → EntriesStand rules.now.definitions standing.new (fold after source (timed_from position 0 changes.now))) }
 {
     let mut total = 0u64;
     'changes: for change in changes {

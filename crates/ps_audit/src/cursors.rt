@@ -1,7 +1,7 @@
 //! A place in a source, which moves on from transaction to transaction.
 
 ghost use Rattle.std.specs.Prelude.{◌≡◌, ◌<◌, ◌≤◌, ◌+◌, [], true, false, length, IfOk, OnOk, IsTrue, MatchOption, ◌↔◌};
-ghost use Rattle.ps_audit.specs.Places.{case_of, IsCounted, StandsAt, FitsAt, NoneFitsBelow};
+ghost use Rattle.ps_audit.specs.Places.{case_of, HasCounts, CursorStandsAt, FitsAt, NoneFitsBelow};
 ghost use Rattle.ps_audit.specs.Positions.{due_over, IsLeast, NoneFits};
 
 use crate::subjects::Subject;
@@ -68,9 +68,9 @@ impl Cursor {
 
     // Goes on behind the next transaction: the rows are made from those before it.
     fn advance(&mut self, alloc: Global, subject: &Subject<'_>) -> Result<(), Memory>
-        requires stands { StandsAt (case_of subject.now) self.old }
+        requires stands { CursorStandsAt (case_of subject.now) self.old }
         requires next { self.old.place < length subject.now.transactions.now }
-        ensures stands { OnOk result (StandsAt (case_of subject.now) self.new) }
+        ensures stands { OnOk result (CursorStandsAt (case_of subject.now) self.new) }
         ensures place { OnOk result (self.new.place ≡ self.old.place + 1) }
     {
         let transaction = &subject.transactions[self.place];
@@ -88,8 +88,8 @@ impl Cursor {
         op: OpId,
         rows: &[Shown],
     ) -> Result<bool, Memory>
-        requires counted { IsCounted subject.now }
-        requires stands { StandsAt (case_of subject.now) self.now }
+        requires counted { HasCounts subject.now }
+        requires stands { CursorStandsAt (case_of subject.now) self.now }
         ensures yes { IfOk result (λ fits. fits ≡ true → FitsAt (case_of subject.now) op.0 rows.now self.now.place) }
         ensures no { IfOk result (λ fits. fits ≡ false → ¬ (FitsAt (case_of subject.now) op.0 rows.now self.now.place)) }
     {
@@ -108,9 +108,9 @@ impl Cursor {
         op: OpId,
         rows: &[Shown],
     ) -> Result<bool, Memory>
-        requires counted { IsCounted subject.now }
-        requires stands { StandsAt (case_of subject.now) self.old }
-        ensures stands { OnOk result (StandsAt (case_of subject.now) self.new) }
+        requires counted { HasCounts subject.now }
+        requires stands { CursorStandsAt (case_of subject.now) self.old }
+        ensures stands { OnOk result (CursorStandsAt (case_of subject.now) self.new) }
         ensures before { OnOk result (NoneFitsBelow (case_of subject.now) op.0 rows.now self.old.place self.new.place) }
         ensures found { IfOk result (λ found. found ≡ true → FitsAt (case_of subject.now) op.0 rows.now self.new.place) }
         ensures none { IfOk result (λ found. found ≡ false → NoneFitsBelow (case_of subject.now) op.0 rows.now self.old.place (length subject.now.transactions.now + 1)) }
@@ -133,9 +133,9 @@ impl Cursor {
         op: OpId,
         rows: &[Shown],
     ) -> Result<Option<Position>, Memory>
-        requires counted { IsCounted subject.now }
-        requires stands { StandsAt (case_of subject.now) self.old }
-        ensures stands { OnOk result (StandsAt (case_of subject.now) self.new) }
+        requires counted { HasCounts subject.now }
+        requires stands { CursorStandsAt (case_of subject.now) self.old }
+        ensures stands { OnOk result (CursorStandsAt (case_of subject.now) self.new) }
         ensures found { IfOk result (λ found. MatchOption found (NoneFits (case_of subject.now) op.0 rows.now self.old.position.0)
             (λ position. IsLeast (case_of subject.now) op.0 rows.now self.old.position.0 position.0 × (self.new.position ≡ position))) }
     {

@@ -3,14 +3,14 @@
 ghost use Rattle.std.specs.Prelude.{◌≡◌, ℕ, List, IfOk, OnOk};
 ghost use Rattle.ps_audit.specs.Positions.{Case};
 ghost use Rattle.ps_client_log.specs.Kept.{Kept};
-ghost use Rattle.ps_client.specs.Taking.{AreHeld, IsFault, IsTaken};
+ghost use Rattle.ps_client.specs.Taking.{AreHeld, IsFault, LineIsTaken};
 ghost use Rattle.ps_rows.specs.declared.shown.Shown.{Shown as ShownSeen};
 ghost use Rattle.ps_client.specs.States.{state};
 ghost use Rattle.ps_client.specs.Clients.{Took, line_taken};
 ghost use Rattle.ps_store.specs.Laws.{AreLatestRows};
-ghost use Rattle.ps_audit.specs.Judging.{IsSettled, IsJudged, Judges, asking_client, no_progress, texts};
-ghost use Rattle.ps_audit.specs.Places.{case_of, IsCounted, StandsAt};
-ghost use Rattle.ps_audit.specs.Hearing.{IsNext, Became, Notes, MayCome, AreBreaking};
+ghost use Rattle.ps_audit.specs.Judging.{CompleteIsJudged, LineIsJudged, Judges, asking_client, no_progress, texts};
+ghost use Rattle.ps_audit.specs.Places.{case_of, HasCounts, CursorStandsAt};
+ghost use Rattle.ps_audit.specs.Hearing.{IsNextPosition, Became, Notes, MayCome, AreBreaking};
 
 use crate::cursors::Cursor;
 use crate::outcomes::Outcome;
@@ -40,11 +40,11 @@ fn settle(
     op: OpId,
     rows: &[Shown],
 ) -> Result<Outcome, Memory>
-    requires counted { IsCounted subject.now }
-    requires stands { StandsAt (case_of subject.now) cursor.old }
-    ensures settled { IfOk result (IsSettled (case_of subject.now) op rows.now cursor.old.position.0) }
-    ensures stands { OnOk result (StandsAt (case_of subject.now) cursor.new) }
-    ensures on { IfOk result (λ outcome. IsNext outcome cursor.old.position.0 cursor.new.position.0) }
+    requires counted { HasCounts subject.now }
+    requires stands { CursorStandsAt (case_of subject.now) cursor.old }
+    ensures settled { IfOk result (CompleteIsJudged (case_of subject.now) op rows.now cursor.old.position.0) }
+    ensures stands { OnOk result (CursorStandsAt (case_of subject.now) cursor.new) }
+    ensures on { IfOk result (λ outcome. IsNextPosition outcome cursor.old.position.0 cursor.new.position.0) }
 {
     match cursor.seek(alloc, subject, op, rows)? {
         Some(position) => Ok(Outcome::Completes { op, position }),
@@ -62,12 +62,12 @@ fn complete(
     cursor: &mut Cursor,
     op: OpId,
 ) -> Result<Outcome, Memory>
-    requires counted { IsCounted subject.now }
-    requires stands { StandsAt (case_of subject.now) cursor.old }
+    requires counted { HasCounts subject.now }
+    requires stands { CursorStandsAt (case_of subject.now) cursor.old }
     ensures settled { IfOk result (λ outcome. (kept : Kept) → AreHeld kept (state client.now).kept.shown
-        → (rows : List ShownSeen) × AreLatestRows kept rows × IsSettled (case_of subject.now) op rows cursor.old.position.0 outcome) }
-    ensures stands { OnOk result (StandsAt (case_of subject.now) cursor.new) }
-    ensures on { IfOk result (λ outcome. IsNext outcome cursor.old.position.0 cursor.new.position.0) }
+        → (rows : List ShownSeen) × AreLatestRows kept rows × CompleteIsJudged (case_of subject.now) op rows cursor.old.position.0 outcome) }
+    ensures stands { OnOk result (CursorStandsAt (case_of subject.now) cursor.new) }
+    ensures on { IfOk result (λ outcome. IsNextPosition outcome cursor.old.position.0 cursor.new.position.0) }
 {
     let rows = client.rows(alloc)?;
     settle(alloc, subject, cursor, op, rows.as_slice())
@@ -81,12 +81,12 @@ fn hear_event(
     cursor: &mut Cursor,
     event: Event,
 ) -> Result<Outcome, Memory>
-    requires counted { IsCounted subject.now }
-    requires stands { StandsAt (case_of subject.now) cursor.old }
-    ensures judged { IfOk result (λ outcome. (took : Took) (kept : Kept) → IsTaken took kept event (state client.now)
-        → IsJudged took.answer (case_of subject.now) kept cursor.old.position.0 outcome) }
-    ensures stands { OnOk result (StandsAt (case_of subject.now) cursor.new) }
-    ensures on { IfOk result (λ outcome. IsNext outcome cursor.old.position.0 cursor.new.position.0) }
+    requires counted { HasCounts subject.now }
+    requires stands { CursorStandsAt (case_of subject.now) cursor.old }
+    ensures judged { IfOk result (λ outcome. (took : Took) (kept : Kept) → LineIsTaken took kept event (state client.now)
+        → LineIsJudged took.answer (case_of subject.now) kept cursor.old.position.0 outcome) }
+    ensures stands { OnOk result (CursorStandsAt (case_of subject.now) cursor.new) }
+    ensures on { IfOk result (λ outcome. IsNextPosition outcome cursor.old.position.0 cursor.new.position.0) }
 {
     match event {
         Event::Nothing => Ok(Outcome::Taken),
@@ -103,7 +103,7 @@ fn hear_event(
 fn hear_fault(fault: ClientFault) -> Result<Outcome, Memory>
     requires { MayCome fault }
     ensures breaks { IfOk result AreBreaking }
-    ensures judged { IfOk result (λ outcome. (took : Took) (case : Case) (kept : Kept) (low : ℕ) → IsFault took fault → IsJudged took.answer case kept low outcome) }
+    ensures judged { IfOk result (λ outcome. (took : Took) (case : Case) (kept : Kept) (low : ℕ) → IsFault took fault → LineIsJudged took.answer case kept low outcome) }
 {
     match fault {
         ClientFault::OutOfOrder => Ok(Outcome::Breaks {
@@ -127,12 +127,12 @@ fn hear(
     cursor: &mut Cursor,
     line: &[u8],
 ) -> Result<Outcome, Memory>
-    requires counted { IsCounted subject.now }
-    requires stands { StandsAt (case_of subject.now) cursor.old }
-    ensures judged { IfOk result (IsJudged (line_taken (state client.old) line.now).answer (case_of subject.now) (state client.old).kept cursor.old.position.0) }
+    requires counted { HasCounts subject.now }
+    requires stands { CursorStandsAt (case_of subject.now) cursor.old }
+    ensures judged { IfOk result (LineIsJudged (line_taken (state client.old) line.now).answer (case_of subject.now) (state client.old).kept cursor.old.position.0) }
     ensures client { IfOk result (λ outcome. Became outcome (line_taken (state client.old) line.now) (state client.new)) }
-    ensures stands { OnOk result (StandsAt (case_of subject.now) cursor.new) }
-    ensures on { IfOk result (λ outcome. IsNext outcome cursor.old.position.0 cursor.new.position.0) }
+    ensures stands { OnOk result (CursorStandsAt (case_of subject.now) cursor.new) }
+    ensures on { IfOk result (λ outcome. IsNextPosition outcome cursor.old.position.0 cursor.new.position.0) }
 {
     match client.take_line(alloc, line) {
         Ok(event) => hear_event(alloc, subject, client, cursor, event),
@@ -168,7 +168,7 @@ pub(crate) fn hear_all(
     subject: &Subject<'_>,
     lines: &[Vec<u8>],
 ) -> Result<Verdict, Memory>
-    requires { IsCounted subject.now }
+    requires { HasCounts subject.now }
     ensures { IfOk result (Judges (texts lines.now) (case_of subject.now) no_progress asking_client) }
 {
     let mut client = begin_client(alloc)?;

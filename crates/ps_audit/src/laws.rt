@@ -3,9 +3,6 @@
 ghost use Rattle.ps_audit.specs.Honest.{HonestStreamsPass};
 ghost use Rattle.ps_audit.specs.Meaning.{VerdictsMean};
 
-use ps_store::{courses_are_lawful, ledgers_tell_events, ledgers_tell_ops, ledgers_tell_reach};
-use ps_streams::{clients_are_led, sessions_keep_clients_right, takes_rise};
-
 /// A law: what Yes and No mean. After a Yes the client took each line, refusing none, and at each complete line it held exactly the rows
 /// that are due at the position, up to which there are as many operations as the line's op; positions do not fall. After a No the named
 /// line breaks this in the named way, and none before it.
@@ -18,11 +15,11 @@ pub fn verdicts_mean()
 pub fn honest_streams_pass()
     ensures { HonestStreamsPass }
 {
-    sessions_keep_clients_right();
-    takes_rise();
-    clients_are_led();
-    courses_are_lawful();
-    ledgers_tell_ops();
-    ledgers_tell_reach();
-    ledgers_tell_events();
+    ps_streams::laws::sessions_keep_clients_right();
+    ps_streams::laws::takes_rise();
+    ps_streams::laws::clients_are_led();
+    ps_store::laws::courses_are_lawful();
+    ps_store::laws::ledgers_tell_ops();
+    ps_store::laws::ledgers_tell_reach();
+    ps_store::laws::ledgers_tell_events();
 }

@@ -6,7 +6,7 @@ mod counting;
 mod cursors;
 mod faults;
 mod hearing;
-mod laws;
+pub mod laws;
 mod outcomes;
 mod standing;
 mod subjects;
@@ -14,5 +14,4 @@ mod verdicts;
 
 pub use auditing::audit;
 pub use faults::AuditFault;
-pub use laws::{honest_streams_pass, verdicts_mean};
 pub use verdicts::{Broken, Judged, Verdict};

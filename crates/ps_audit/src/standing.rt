@@ -5,7 +5,7 @@ ghost use Rattle.std.specs.BTreeSet.{contains};
 ghost use Rattle.std.specs.Ordering.{eq_by_cmp};
 ghost use Rattle.ps_rows.specs.Source.{Key as KeySeen, key_cmp};
 ghost use Rattle.ps_store.specs.Originals.{is_placed, stays, leaving};
-ghost use Rattle.ps_store.specs.Places.{place_of as place_of_entry, place_cmp, HasPlaces};
+ghost use Rattle.ps_store.specs.Places.{entry_place as place_of_entry, place_cmp, HasPlaces};
 ghost use Rattle.ps_audit.specs.Counts.{entries_in};
 
 use ps_bucket_eval::Placed;

@@ -14,13 +14,13 @@ use Rattle.ps_data.specs.declared.values.Value.TheVariants.{Null, Int, Text}
 use Rattle.ps_data.specs.declared.values.Truth.{Truth}
 use Rattle.ps_data.specs.declared.values.Truth.TheVariants.{True, False, Unknown}
 use Rattle.ps_data.specs.Values.{compare_values, is_null, equal_sql}
-use Rattle.ps_data.specs.Conversions.{value_of as json_value}
+use Rattle.ps_data.specs.Conversions.{json_value as json_value}
 use Rattle.ps_values.specs.Laws.{TiesTheSame, IsEqualWherePresent}
 use Rattle.ps_queries.specs.Meaning.{Given, value_of, is_true, any_equals, array_of}
 use Rattle.ps_definitions.specs.declared.matches.Match.{Match}
 use Rattle.ps_definitions.specs.Meeting.{is_among}
 use Rattle.ps_sql_eval.specs.Evaluated.{values_of_items, values_in}
-use Rattle.ps_bucket_eval.specs.Vectors.{compared}
+use Rattle.ps_bucket_eval.specs.Vectors.{match_values}
 use Rattle.ps_bucket_eval.specs.Solving.{gathered, allowed_by, common, narrowed, narrowed_by, narrowed_along, values_or_none, allowed}
 use Rattle.ps_data.proofs.Members.{Has, has_filter, from_filter, has_any, any_has}
 use Rattle.ps_data.proofs.Rising.{insert_has, from_insert}
@@ -88,10 +88,10 @@ module _ (laws : ValueLaws) where
   permitting true w v h n = elements_among (array_of w) v h n
   permitting false w v h n = elim h [ inl e ↦ is_equal v w (ap is_null e ∙ n) (sym e) | inr z ↦ absurd z ]
 
-  pub permits_compared : (given : Given) (m : Match) (v : Value) → permits given m v ≡ true → Has (compared given m) v × (is_null v ≡ false)
+  pub permits_compared : (given : Given) (m : Match) (v : Value) → permits given m v ≡ true → Has (match_values given m) v × (is_null v ≡ false)
   permits_compared given m v h = permitted m.listed (value_of given m.other) v h
 
-  compared_permits : (given : Given) (m : Match) (v : Value) → Has (compared given m) v → is_null v ≡ false → permits given m v ≡ true
+  compared_permits : (given : Given) (m : Match) (v : Value) → Has (match_values given m) v → is_null v ≡ false → permits given m v ≡ true
   compared_permits given m v h n = permitting m.listed (value_of given m.other) v h n
 
   -- ---- sets
@@ -122,13 +122,13 @@ module _ (laws : ValueLaws) where
   ])
 
   from_allowed_by : (given : Given) (m : Match) (v : Value) → Has (allowed_by given m) v → permits given m v ≡ true
-  from_allowed_by given m v h = elim (from_gathered [] (compared given m) v h) [
+  from_allowed_by given m v h = elim (from_gathered [] (match_values given m) v h) [
     | inl n ↦ absurd n
     | inr p ↦ compared_permits given m v p.0 p.1
   ]
 
   has_allowed_by : (given : Given) (m : Match) (v : Value) → permits given m v ≡ true → Has (allowed_by given m) v
-  has_allowed_by given m v h = has_gathered [] (compared given m) v (inr (permits_compared given m v h))
+  has_allowed_by given m v h = has_gathered [] (match_values given m) v (inr (permits_compared given m v h))
 
   eq_is : (o : Ordering) → is_eq o ≡ true → o ≡ Equal
   eq_is Less h = absurd (cc)

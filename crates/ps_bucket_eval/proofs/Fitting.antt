@@ -6,19 +6,19 @@ use Rattle.std.proofs.lemmas.Bool.{leb-true, leb-false}
 use Rattle.std.proofs.lemmas.List.{take_all}
 use Rattle.ps_data.specs.declared.values.Value.{Value}
 use Rattle.ps_definitions.specs.Buckets.{bucket_name_of}
-use Rattle.ps_bucket_eval.specs.Solving.{inserted, Fits, FitsWith, names_from, is_none, some_empty}
+use Rattle.ps_bucket_eval.specs.Solving.{inserted, FitsRoom, FitsWith, names_from, is_none, some_empty}
 use Rattle.ps_bucket_eval.proofs.Steps.{named_more, named_past}
 
 -- whether the set has room tells whether the names fit
-pub fits_by : (room n : ℕ) (old new names : List (List ℕ)) (b : Bool) → b ≡ leb n room → n ≡ length new → new ≡ inserted old names → Fits room old new names b
+pub fits_by : (room n : ℕ) (old new names : List (List ℕ)) (b : Bool) → b ≡ leb n room → n ≡ length new → new ≡ inserted old names → FitsRoom room old new names b
 fits_by room n old new names true e is named = (named, subst (λ k. k ≤ room) is (leb-true n room (sym e)))
 fits_by room n old new names false e is named = subst (λ s. room < length s) named (subst (λ k. room < k) is (leb-false n room (sym e)))
 
-pub fits_within : (room : ℕ) (old new names : List (List ℕ)) (b : Bool) → b ≡ true → Fits room old new names b → (new ≡ inserted old names) × (length new ≤ room)
+pub fits_within : (room : ℕ) (old new names : List (List ℕ)) (b : Bool) → b ≡ true → FitsRoom room old new names b → (new ≡ inserted old names) × (length new ≤ room)
 fits_within room old new names true e h = h
 fits_within room old new names false e h = absurd (cc)
 
-pub fits_past : (room : ℕ) (old new names : List (List ℕ)) (b : Bool) → b ≡ false → Fits room old new names b → room < length (inserted old names)
+pub fits_past : (room : ℕ) (old new names : List (List ℕ)) (b : Bool) → b ≡ false → FitsRoom room old new names b → room < length (inserted old names)
 fits_past room old new names true e h = absurd (cc)
 fits_past room old new names false e h = h
 
@@ -41,7 +41,7 @@ none_from_empty definition chosen ((v ∷ vs) ∷ lists) h =
     flat_none (λ value. names_from definition (chosen ++ value ∷ []) lists) (λ value. none_from_empty definition (chosen ++ value ∷ []) lists h) (v ∷ vs)
 
 -- nothing is added where there is no vector
-pub fits_empty : (definition : List ℕ) (lists : List (List Value)) (room : ℕ) (old : List (List ℕ)) → some_empty lists ≡ true → length old ≤ room → Fits room old old (names_from definition [] lists) true
+pub fits_empty : (definition : List ℕ) (lists : List (List Value)) (room : ℕ) (old : List (List ℕ)) → some_empty lists ≡ true → length old ≤ room → FitsRoom room old old (names_from definition [] lists) true
 fits_empty definition lists room old h within = (sym (ap (inserted old) (none_from_empty definition [] lists h)), within)
 
 -- the names of a vector that is whole
@@ -49,9 +49,9 @@ pub names_whole : (definition : List ℕ) (chosen : List Value) (lists : List (L
 names_whole definition chosen lists e = ap (names_from definition chosen) e
 
 -- the name of a vector of one value
-pub named_alone : (definition : List ℕ) (room : ℕ) (old new : List (List ℕ)) (values : List Value) (value : Value) (b : Bool) → values ≡ value ∷ [] → Fits room old new (bucket_name_of definition values ∷ []) b
-    → Fits room old new (bucket_name_of definition (value ∷ []) ∷ []) b
-named_alone definition room old new values value b e h = subst (λ (vs : List Value). Fits room old new (bucket_name_of definition vs ∷ []) b) e h
+pub named_alone : (definition : List ℕ) (room : ℕ) (old new : List (List ℕ)) (values : List Value) (value : Value) (b : Bool) → values ≡ value ∷ [] → FitsRoom room old new (bucket_name_of definition values ∷ []) b
+    → FitsRoom room old new (bucket_name_of definition (value ∷ []) ∷ []) b
+named_alone definition room old new values value b e h = subst (λ (vs : List Value). FitsRoom room old new (bucket_name_of definition vs ∷ []) b) e h
 
 module _ (definition : List ℕ) (chosen : List Value) (values : List Value) (rest : List (List Value)) (room : ℕ) (old now new : List (List ℕ)) (i : ℕ) (value : Value) where
   abbrev each : Value → List (List ℕ)

@@ -8,7 +8,7 @@ use Rattle.std.specs.declared.cmp.Ordering.TheVariants.{Less, Equal}
 use Rattle.std.proofs.lemmas.Bool.{and_parts, ltb-true}
 use Rattle.ps_definitions.specs.declared.queries.Planned.{Planned}
 use Rattle.ps_definitions.specs.declared.definitions.Definition.{Definition}
-use Rattle.ps_definitions.specs.RuleSets.{rises_past, numbers_of}
+use Rattle.ps_definitions.specs.RuleSets.{rises_past, all_query_numbers}
 use Rattle.ps_bucket_eval.specs.Types.{Placed}
 use Rattle.ps_definitions.specs.Buckets.{bucket_name_of}
 use Rattle.ps_queries.specs.Objects.{object_id}
@@ -73,22 +73,22 @@ same_query before (x ∷ xs) p q h i j e =
       ]
     ]
 
-has_numbers : (definitions : List Definition) (d : Definition) (q : Planned) → Has definitions d → Has d.queries q → Has (numbers_of definitions) q.number
+has_numbers : (definitions : List Definition) (d : Definition) (q : Planned) → Has definitions d → Has d.queries q → Has (all_query_numbers definitions) q.number
 has_numbers definitions d q i j = has_flat (λ (x : Definition). numbers x.queries) definitions d q.number i (has_number d.queries q j)
 
-pub same_place : (before : ℕ) (definitions : List Definition) (c d : Definition) (p q : Planned) → rises_past before (numbers_of definitions) ≡ true
+pub same_place : (before : ℕ) (definitions : List Definition) (c d : Definition) (p q : Planned) → rises_past before (all_query_numbers definitions) ≡ true
     → Has definitions c → Has c.queries p → Has definitions d → Has d.queries q → p.number ≡ q.number → (c ≡ d) × (p ≡ q)
 same_place before [] c d p q h i ip j jq e = absurd i
 same_place before (x ∷ xs) c d p q h i ip j jq e =
-    let apart = λ (a : ℕ) (b : ℕ). rises_apart before (numbers x.queries) (numbers_of xs) a b h in
+    let apart = λ (a : ℕ) (b : ℕ). rises_apart before (numbers x.queries) (all_query_numbers xs) a b h in
     elim i [
       | inl a ↦ let here : Has x.queries p = subst (λ (z : Definition). Has z.queries p) (sym a) ip in elim j [
-        | inl b ↦ (sym a ∙ b, same_query before x.queries p q (rises_left before (numbers x.queries) (numbers_of xs) h) here (subst (λ (z : Definition). Has z.queries q) (sym b) jq) e)
+        | inl b ↦ (sym a ∙ b, same_query before x.queries p q (rises_left before (numbers x.queries) (all_query_numbers xs) h) here (subst (λ (z : Definition). Has z.queries q) (sym b) jq) e)
         | inr b ↦ absurd (omega (arith, e, apart p.number q.number (has_number x.queries p here) (has_numbers xs d q b jq)))
       ]
       | inr a ↦ elim j [
         | inl b ↦ absurd (omega (arith, e, apart q.number p.number (has_number x.queries q (subst (λ (z : Definition). Has z.queries q) (sym b) jq)) (has_numbers xs c p a ip)))
-        | inr b ↦ let r = rises_right before (numbers x.queries) (numbers_of xs) h in same_place r.0 xs c d p q r.1 a ip b jq e
+        | inr b ↦ let r = rises_right before (numbers x.queries) (all_query_numbers xs) h in same_place r.0 xs c d p q r.1 a ip b jq e
       ]
     ]
 
@@ -154,17 +154,17 @@ module _ (source : SourceRow) where
       rises_append (query_entries definition source q) (flat_map (query_entries definition source) qs) (query_rises definition q) (queries_rise q.number definition qs rest)
       (λ x y i j. less_number x y (subst (λ n. n < y.number) (query_numbered definition q x i) (rises_above q.number (numbers qs) y.number rest (queries_numbered definition qs y j))))
 
-  numbered : (definitions : List Definition) (x : Placed) → Has (entries_of definitions source) x → Has (numbers_of definitions) x.number
+  numbered : (definitions : List Definition) (x : Placed) → Has (entries_of definitions source) x → Has (all_query_numbers definitions) x.number
   numbered definitions x h =
       let f = from_flat (definition_entries source) definitions x h in
       has_flat (λ (d : Definition). numbers d.queries) definitions f.0 x.number f.1 (queries_numbered f.0 f.0.queries x f.2)
 
-  entries_risen : (before : ℕ) (definitions : List Definition) → rises_past before (numbers_of definitions) ≡ true → Rises placed_cmp (entries_of definitions source)
+  entries_risen : (before : ℕ) (definitions : List Definition) → rises_past before (all_query_numbers definitions) ≡ true → Rises placed_cmp (entries_of definitions source)
   entries_risen before [] h = tt
   entries_risen before (d ∷ ds) h =
-      let r = rises_right before (numbers d.queries) (numbers_of ds) h in
-      rises_append (definition_entries source d) (entries_of ds source) (queries_rise before d d.queries (rises_left before (numbers d.queries) (numbers_of ds) h)) (entries_risen r.0 ds r.1)
-      (λ x y i j. less_number x y (rises_apart before (numbers d.queries) (numbers_of ds) x.number y.number h (queries_numbered d d.queries x i) (numbered ds y j)))
+      let r = rises_right before (numbers d.queries) (all_query_numbers ds) h in
+      rises_append (definition_entries source d) (entries_of ds source) (queries_rise before d d.queries (rises_left before (numbers d.queries) (all_query_numbers ds) h)) (entries_risen r.0 ds r.1)
+      (λ x y i j. less_number x y (rises_apart before (numbers d.queries) (all_query_numbers ds) x.number y.number h (queries_numbered d d.queries x i) (numbered ds y j)))
 
-  pub entries_rise : (before : ℕ) (definitions : List Definition) → rises_past before (numbers_of definitions) ≡ true → EntriesRise (entries_of definitions source)
+  pub entries_rise : (before : ℕ) (definitions : List Definition) → rises_past before (all_query_numbers definitions) ≡ true → EntriesRise (entries_of definitions source)
   entries_rise before definitions h = rises_sorted placed_cmp (entries_of definitions source) (entries_risen before definitions h)

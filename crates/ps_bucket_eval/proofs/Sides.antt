@@ -10,7 +10,7 @@ use Rattle.ps_queries.specs.declared.expressions.Operator.{Operator}
 use Rattle.ps_queries.specs.declared.expressions.Operator.TheVariants as operators
 use Rattle.ps_definitions.specs.declared.matches.Match.{Match}
 use Rattle.ps_definitions.specs.declared.branches.Branch.{Branch}
-use Rattle.ps_definitions.specs.Branches.{finds, layer_finds, has_parameter, match_of_side, match_of_sides, match_of_layer, match_of, branch_with, leaf_branch, joined, crossed, branches_in, branches_of}
+use Rattle.ps_definitions.specs.Branches.{finds, layer_finds, has_parameter, match_of_side, match_of_sides, match_of_layer, match_of, branch_with, leaf_branch, joined_branches, crossed, branches_in, branches_of}
 use Rattle.ps_definitions.specs.Laws.{EitherSide, BothSides, LeafAlone, is_leaf_layer, is_leaf}
 use Rattle.ps_data.proofs.Members.{Has, has_cases, from_flat, from_map}
 
@@ -83,8 +83,8 @@ module _ (test : List ℕ → Bool) where
 
   crossed_plain : (xs ys : List Branch) → ArePlain test xs → ArePlain test ys → ArePlain test (crossed xs ys)
   crossed_plain xs ys f g b m h k =
-      let p = from_flat (λ (y : Branch). map (λ (x : Branch). joined x y) xs) ys b h in
-      let q = from_map (λ (x : Branch). joined x p.0) xs b p.2 in
+      let p = from_flat (λ (y : Branch). map (λ (x : Branch). joined_branches x y) xs) ys b h in
+      let q = from_map (λ (x : Branch). joined_branches x p.0) xs b p.2 in
       elim (has_cases q.0.matches p.0.matches m (subst (λ (x : Branch). Has x.matches m) (sym q.2) k)) [
         | inl l ↦ f q.0 m q.1 l
         | inr r ↦ g p.0 m p.1 r

@@ -21,7 +21,7 @@ use Rattle.ps_definitions.specs.RuleSets.{IsSoundQuery}
 use Rattle.ps_definitions.specs.Vectors.{vector_at}
 use Rattle.ps_definitions.specs.Buckets.{bucket_name_of}
 use Rattle.ps_bucket_eval.specs.Shown.{over, alone}
-use Rattle.ps_bucket_eval.specs.Vectors.{compared, compared_as, candidates, choices, with_vector, tried, holding}
+use Rattle.ps_bucket_eval.specs.Vectors.{match_values, compared_as, candidates, choices, with_vector, tried, holding}
 use Rattle.ps_bucket_eval.specs.Solving.{allowed, all_hold, names_from, branch_names, sides_have_parameter}
 use Rattle.ps_data.proofs.Members.{Has, has_flat, from_flat, has_map, from_map, has_filter, from_filter, any_has, has_any, all_has, has_all}
 use Rattle.ps_bucket_eval.proofs.Choosing.{InEach, has_choices, from_choices, names_of_choices}
@@ -144,7 +144,7 @@ module _ (laws : BranchLaws) (id : List ℕ) (row : List Column) where
         let m = facts.1.0 in
         let seen = (permits_compared laws.values here m v (facts.0 m facts.1.1 facts.1.2)).0 in
         has_flat (λ (x : Branch). flat_map (compared_as here n) x.matches) branches b v i
-        (has_flat (compared_as here n) b.matches m v facts.1.1 (subst (λ t. Has (if t then compared here m else []) v) (sym facts.1.2) seen))
+        (has_flat (compared_as here n) b.matches m v facts.1.1 (subst (λ t. Has (if t then match_values here m else []) v) (sym facts.1.2) seen))
 
     allowed_tried : (b : Branch) → Has branches b → (values : List Value) → InEach (map (allowed here b.matches) names) values → Has (choices (map (candidates here branches) names)) values
     allowed_tried b i values h =

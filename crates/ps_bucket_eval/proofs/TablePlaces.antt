@@ -6,8 +6,8 @@ use Rattle.ps_definitions.specs.declared.queries.Planned.{Planned}
 use Rattle.ps_definitions.specs.declared.definitions.Definition.{Definition}
 use Rattle.ps_definitions.specs.declared.tables.QueryPlace.{QueryPlace}
 use Rattle.std.proofs.lemmas.List.{take_all}
-use Rattle.ps_definitions.specs.RuleSets.{IsSound, IsSoundQuery}
-use Rattle.ps_definitions.specs.Tables.{places_among, places_from, places_of, IsAt}
+use Rattle.ps_definitions.specs.RuleSets.{IsSoundDefinition, IsSoundQuery}
+use Rattle.ps_definitions.specs.Tables.{places_among, places_from, places_of, IsQueryAt}
 use Rattle.ps_bucket_eval.specs.Types.{Placed}
 use Rattle.ps_queries.specs.Vectors.{SourceRow}
 use Rattle.ps_bucket_eval.specs.Entries.{query_entries, definition_entries, entries_of}
@@ -26,7 +26,7 @@ entries_by source query (Some definition) = entries_in source definition (slice_
 abbrev pub entries_at : List Definition → SourceRow → QueryPlace → List Placed
 entries_at definitions source place = entries_by source place.query (slice_get definitions place.definition)
 
-pub entries_there : (definitions : List Definition) (source : SourceRow) (place : QueryPlace) (definition : Definition) (planned : Planned) → IsAt definitions place definition planned
+pub entries_there : (definitions : List Definition) (source : SourceRow) (place : QueryPlace) (definition : Definition) (planned : Planned) → IsQueryAt definitions place definition planned
     → entries_at definitions source place ≡ query_entries definition source planned
 entries_there definitions source place definition planned there = ap (entries_by source place.query) there.of_rules ∙ ap (entries_in source definition) there.of_definition
 
@@ -93,10 +93,10 @@ all_got P (y ∷ xs) (suc i) x e all = all_got P xs i x e all.1
 
 -- ---- what holds of the query at a place
 
-pub is_sound : (definitions : List Definition) (place : QueryPlace) (definition : Definition) (planned : Planned) → IsAt definitions place definition planned → AllByRecursion IsSound definitions → IsSound definition
-is_sound definitions place definition planned there all = all_got IsSound definitions place.definition definition there.of_rules all
+pub is_sound : (definitions : List Definition) (place : QueryPlace) (definition : Definition) (planned : Planned) → IsQueryAt definitions place definition planned → AllByRecursion IsSoundDefinition definitions → IsSoundDefinition definition
+is_sound definitions place definition planned there all = all_got IsSoundDefinition definitions place.definition definition there.of_rules all
 
-pub is_sound_query : (definitions : List Definition) (place : QueryPlace) (definition : Definition) (planned : Planned) → IsAt definitions place definition planned → AllByRecursion IsSound definitions
+pub is_sound_query : (definitions : List Definition) (place : QueryPlace) (definition : Definition) (planned : Planned) → IsQueryAt definitions place definition planned → AllByRecursion IsSoundDefinition definitions
     → IsSoundQuery definition.names planned
 is_sound_query definitions place definition planned there all =
     all_got (IsSoundQuery definition.names) definition.queries place.query planned there.of_definition (is_sound definitions place definition planned there all).queries

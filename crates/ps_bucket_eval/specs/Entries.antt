@@ -18,21 +18,21 @@ use Rattle.ps_bucket_eval.specs.Vectors.{holding}
 unfoldable pub subkey_of : ℕ → SourceRow → List ℕ
 subkey_of number source = decimal number ++ (47 ∷ (source.table ++ (47 ∷ source.id)))
 
-abbrev pub key_of : Planned → SourceRow → List ℕ → Key
-key_of planned source object = record { kind = planned.query.kind; id = object; subkey = subkey_of planned.number source }
+abbrev pub entry_key : Planned → SourceRow → List ℕ → Key
+entry_key planned source object = record { kind = planned.query.kind; id = object; subkey = subkey_of planned.number source }
 
 -- a row in a bucket, as the object that a query shows
 abbrev pub placed_in : Planned → SourceRow → List ℕ → List ℕ → Placed
 placed_in planned source object bucket = record {
   bucket = bucket;
-  key = key_of planned source object;
+  key = entry_key planned source object;
   content = content_of (alone source.id source.row) planned.query object;
   number = planned.number;
 }
 
 -- the entry of a vector
-abbrev pub entry_of : Definition → Planned → SourceRow → List ℕ → List Value → Placed
-entry_of definition planned source object values = placed_in planned source object (bucket_name_of definition.name values)
+abbrev pub vector_entry : Definition → Planned → SourceRow → List ℕ → List Value → Placed
+vector_entry definition planned source object values = placed_in planned source object (bucket_name_of definition.name values)
 
 -- the buckets of a query, one for each vector for which its condition holds
 unfoldable pub buckets_of : Definition → SourceRow → Planned → List (List ℕ)

@@ -16,7 +16,7 @@ use Rattle.ps_queries.specs.Objects.{object_id}
 use Rattle.ps_bucket_eval.specs.Shown.{alone}
 use Rattle.ps_bucket_eval.specs.Vectors.{with_vector}
 use Rattle.ps_queries.specs.Vectors.{SourceRow}
-use Rattle.ps_bucket_eval.specs.Entries.{entry_of}
+use Rattle.ps_bucket_eval.specs.Entries.{vector_entry}
 
 -- one vector of a data query that shows an object for a row: a value for each parameter
 pub record IsVectorOf (rules : RuleSet) (source : SourceRow) (definition : Definition) (planned : Planned) (object : List ℕ) (values : List Value) : Type 0 where
@@ -31,7 +31,7 @@ pub record IsVectorOf (rules : RuleSet) (source : SourceRow) (definition : Defin
 abbrev pub PlacedWhereItHolds : RuleSet → SourceRow → List Placed → Type 0
 PlacedWhereItHolds rules source placed = (definition : Definition) (planned : Planned) (object : List ℕ) (values : List Value)
     → IsVectorOf rules source definition planned object values
-    → Holds (with_vector source.id source.row definition.names values) planned.query.condition ↔ Contains placed (entry_of definition planned source object values)
+    → Holds (with_vector source.id source.row definition.names values) planned.query.condition ↔ Contains placed (vector_entry definition planned source object values)
 
 -- by number, and then by bucket
 abbrev pub placed_cmp : Placed → Placed → Ordering

@@ -25,7 +25,7 @@ use Rattle.ps_definitions.specs.declared.queries.Planned.{Planned}
 use Rattle.ps_definitions.specs.Names.{has_repeated}
 use Rattle.ps_definitions.specs.RuleSets.{IsSoundQuery}
 use Rattle.ps_definitions.specs.Buckets.{bucket_name_of}
-use Rattle.ps_bucket_eval.specs.Vectors.{compared}
+use Rattle.ps_bucket_eval.specs.Vectors.{match_values}
 
 -- ---- what is to be evaluated has no parameter in it
 
@@ -43,7 +43,7 @@ gathered set [] = set
 gathered set (value ∷ values) = gathered (if is_null value then set else insert_key compare_values set value) values
 
 abbrev pub allowed_by : Given → Match → List Value
-allowed_by given m = gathered [] (compared given m)
+allowed_by given m = gathered [] (match_values given m)
 
 -- those that are in a set
 abbrev pub common : List Value → List Value → List Value
@@ -95,20 +95,20 @@ inserted set [] = set
 inserted set (name ∷ names) = inserted (insert_key (slice_cmp nat_cmp) set name) names
 
 -- the names are in the set, and it has no more than `room`; or with them it has more
-abbrev pub Fits : ℕ → List (List ℕ) → List (List ℕ) → List (List ℕ) → Bool → Type 0
-Fits room old new names true = (new ≡ inserted old names) × (length new ≤ room)
-Fits room old new names false = room < length (inserted old names)
+abbrev pub FitsRoom : ℕ → List (List ℕ) → List (List ℕ) → List (List ℕ) → Bool → Type 0
+FitsRoom room old new names true = (new ≡ inserted old names) × (length new ≤ room)
+FitsRoom room old new names false = room < length (inserted old names)
 
 -- the set has the names, which are no more than `room`; or they are more
 abbrev pub FitsWith : ℕ → List (List ℕ) → Option (BTreeSet (List ℕ)) → Type 0
 FitsWith room names (Some set) = (set.keys ≡ names) × (length names ≤ room)
 FitsWith room names None = room < length names
 
-abbrev pub row_of : List ℕ → List ℕ → List Column → SourceRow
-row_of table id row = record { table = table; id = id; row = row }
+abbrev pub source_row : List ℕ → List ℕ → List Column → SourceRow
+source_row table id row = record { table = table; id = id; row = row }
 
-abbrev pub row_at : SourceRowRef → SourceRow
-row_at source = row_of source.table.now source.id.now source.row.now
+abbrev pub borrowed_row : SourceRowRef → SourceRow
+borrowed_row source = source_row source.table.now source.id.now source.row.now
 
 -- an entry of a query, by its parts
 abbrev pub made_in : Planned → List ℕ → List ℕ → List ℕ → List ℕ → Placed

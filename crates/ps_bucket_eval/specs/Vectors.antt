@@ -11,12 +11,12 @@ use Rattle.ps_definitions.specs.Vectors.{vector_at}
 use Rattle.ps_bucket_eval.specs.Shown.{over, alone}
 
 -- what a match compares its parameter with: the value of its other side, or the elements of that value
-abbrev pub compared : Given → Match → List Value
-compared given m = if m.listed then values_in (array_of (value_of given m.other)) else value_of given m.other ∷ []
+abbrev pub match_values : Given → Match → List Value
+match_values given m = if m.listed then values_in (array_of (value_of given m.other)) else value_of given m.other ∷ []
 
 -- what the matches compare the parameter of a name with
 abbrev pub compared_as : Given → List ℕ → Match → List Value
-compared_as given name m = if bytes_eq m.name name then compared given m else []
+compared_as given name m = if bytes_eq m.name name then match_values given m else []
 
 abbrev pub candidates : Given → List Branch → List ℕ → List Value
 candidates given branches name = flat_map (λ (b : Branch). flat_map (compared_as given name) b.matches) branches

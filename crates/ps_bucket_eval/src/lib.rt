@@ -4,7 +4,7 @@
 mod changes;
 mod evaluating;
 mod faults;
-mod laws;
+pub mod laws;
 mod objects;
 mod placed;
 mod placing;
@@ -13,7 +13,6 @@ mod source_rows;
 
 pub use changes::{ChangeEntries, entries_of_change};
 pub use faults::PlaceFault;
-pub use laws::entries_stand_where_conditions_hold;
 pub use placed::Placed;
 pub use placing::entries_of_row;
 pub use ps_definitions::bucket_name;

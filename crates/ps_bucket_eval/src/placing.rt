@@ -7,14 +7,13 @@ ghost use Rattle.ps_definitions.specs.Buckets.{bucket_name_of};
 ghost use Rattle.ps_bucket_eval.specs.Shown.{alone};
 ghost use Rattle.ps_bucket_eval.specs.Entries.{subkey_of, placed_in, query_entries, entries_of, buckets_of, IsPlaced};
 ghost use Rattle.ps_bucket_eval.specs.Laws.{PlacedWhereItHolds, EntriesRise};
-ghost use Rattle.ps_bucket_eval.specs.Solving.{sides_have_parameter, names_from, is_none, some_empty, branch_names, Fits, FitsWith, AddsEntries, row_of, made_in, outputs_have_parameter, row_at};
+ghost use Rattle.ps_bucket_eval.specs.Solving.{sides_have_parameter, names_from, is_none, some_empty, branch_names, FitsRoom, FitsWith, AddsEntries, source_row, made_in, outputs_have_parameter, borrowed_row};
 
 use crate::evaluating::all_hold;
-use crate::laws::{branches_are_solved, entries_stand_where_conditions_hold};
 use crate::objects::{shown_content, shown_id};
 use crate::solving::allowed_each;
 use crate::source_rows::SourceRowRef;
-use crate::{PlaceFault, Placed};
+use crate::{PlaceFault, Placed, laws};
 use ps_bucket_log::Key;
 use ps_data::{Items, Memory, Text, Value};
 use ps_definitions::{Branch, Definition, Planned, Rules, bucket_name};
@@ -37,11 +36,11 @@ pub fn entries_of_row(
     top: u32,
 ) -> Result<Items<Placed>, PlaceFault>
     requires { top < 4294967295 }
-    ensures placed { IsPlaced (entries_of rules.now.definitions (row_of table.now id.now row.now)) top result }
-    ensures every_vector { IfOk result (PlacedWhereItHolds rules.now (row_of table.now id.now row.now)) }
+    ensures placed { IsPlaced (entries_of rules.now.definitions (source_row table.now id.now row.now)) top result }
+    ensures every_vector { IfOk result (PlacedWhereItHolds rules.now (source_row table.now id.now row.now)) }
     ensures order { IfOk result EntriesRise }
 {
-    entries_stand_where_conditions_hold();
+    laws::entries_stand_where_conditions_hold();
     let source = SourceRowRef { table, id, row };
     let mut placed = Items::new(alloc);
     'places: for place in rules.places_of(table) {
@@ -68,7 +67,7 @@ fn place_query(
     requires sound { IsSoundQuery definition.now.names planned.now }
     requires within { length placed.old ≤ top }
     requires top { top < 4294967295 }
-    ensures { AddsEntries top placed.old placed.new (query_entries definition.now (row_at source.now) planned.now) result }
+    ensures { AddsEntries top placed.old placed.new (query_entries definition.now (borrowed_row source.now) planned.now) result }
 {
     let Some(object) = shown_id(alloc, &planned.query, source)? else {
         return Ok(());
@@ -91,7 +90,7 @@ fn place_in(
     placed: &mut Items<Placed>,
 ) -> Result<(), Memory>
     requires { outputs_have_parameter planned.now.query.outputs ≡ false }
-    ensures { OnOk result (placed.new ≡ placed.old ++ map (placed_in planned.now (row_at source.now) object) buckets.keys) }
+    ensures { OnOk result (placed.new ≡ placed.old ++ map (placed_in planned.now (borrowed_row source.now) object) buckets.keys) }
 {
     if buckets.is_empty() {
         return Ok(());
@@ -169,7 +168,7 @@ fn push_entry(
 // The subkey of a query's entries.
 #[tactic(auto, unfolding(crate::specs::Entries::subkey_of))]
 fn subkey(alloc: Global, number: u32, source: &SourceRowRef<'_>) -> Result<Text, Memory>
-    ensures { IfOk result (λ subkey. subkey ≡ subkey_of number (row_at source.now)) }
+    ensures { IfOk result (λ subkey. subkey ≡ subkey_of number (borrowed_row source.now)) }
 {
     let (table, id) = (source.table.as_str(), source.id.as_str());
     let room = table.len().saturating_add(id.len()).saturating_add(12);
@@ -188,9 +187,9 @@ fn buckets(
 ) -> Result<Option<BTreeSet<Text>>, Memory>
     requires differ { has_repeated definition.now.names ≡ false }
     requires sound { IsSoundQuery definition.now.names planned.now }
-    ensures { IfOk result (FitsWith room (buckets_of definition.now (row_at source.now) planned.now)) }
+    ensures { IfOk result (FitsWith room (buckets_of definition.now (borrowed_row source.now) planned.now)) }
 {
-    branches_are_solved();
+    laws::branches_are_solved();
     let mut found = BTreeSet::new(alloc);
     let branches = planned.branches.as_slice();
     if name_branches(alloc, definition, branches, source, room, &mut found)? {
@@ -211,7 +210,7 @@ fn name_branches(
 ) -> Result<bool, Memory>
     requires plain { list_any (λ (b : BranchData). sides_have_parameter b) branches.now ≡ false }
     requires within { length found.old.keys ≤ room }
-    ensures { IfOk result (Fits room found.old.keys found.new.keys
+    ensures { IfOk result (FitsRoom room found.old.keys found.new.keys
         (flat_map (branch_names (alone source.now.id.now source.now.row.now) definition.now.name definition.now.names) branches.now)) }
 {
     'branches: for branch in branches {
@@ -233,7 +232,7 @@ fn name_branch(
 ) -> Result<bool, Memory>
     requires plain { sides_have_parameter branch.now ≡ false }
     requires within { length found.old.keys ≤ room }
-    ensures { IfOk result (Fits room found.old.keys found.new.keys
+    ensures { IfOk result (FitsRoom room found.old.keys found.new.keys
         (branch_names (alone source.now.id.now source.now.row.now) definition.now.name definition.now.names branch.now)) }
 {
     if !all_hold(alloc, branch.rest.as_slice(), source.id, source.row)? {
@@ -261,7 +260,7 @@ fn name_lists(
     found: &mut BTreeSet<Text>,
 ) -> Result<bool, Memory>
     requires { length found.old.keys ≤ room }
-    ensures { IfOk result (Fits room found.old.keys found.new.keys (names_from definition.now [] lists.now)) }
+    ensures { IfOk result (FitsRoom room found.old.keys found.new.keys (names_from definition.now [] lists.now)) }
 {
     if has_empty(lists) {
         return Ok(true);
@@ -297,7 +296,7 @@ fn name_each(
     found: &mut BTreeSet<Text>,
 ) -> Result<bool, Memory>
     requires { length found.old.keys ≤ room }
-    ensures { IfOk result (Fits room found.old.keys found.new.keys (names_from definition.now [] (values.now ∷ []))) }
+    ensures { IfOk result (FitsRoom room found.old.keys found.new.keys (names_from definition.now [] (values.now ∷ []))) }
 {
     'values: for value in values {
         if !name_vector(alloc, definition, slice::from_ref(value), room, found)? {
@@ -315,7 +314,7 @@ fn name_vector(
     room: usize,
     found: &mut BTreeSet<Text>,
 ) -> Result<bool, Memory>
-    ensures { IfOk result (Fits room found.old.keys found.new.keys (bucket_name_of definition.now values.now ∷ [])) }
+    ensures { IfOk result (FitsRoom room found.old.keys found.new.keys (bucket_name_of definition.now values.now ∷ [])) }
 {
     found.insert(bucket_name(alloc, definition, values)?)?;
     Ok(found.len() <= room)
@@ -333,7 +332,7 @@ fn name_vectors(
 ) -> Result<bool, Memory>
     requires within { length found.old.keys ≤ room }
     ensures kept { OnOk result (chosen.new.items ≡ chosen.old.items) }
-    ensures named { IfOk result (Fits room found.old.keys found.new.keys
+    ensures named { IfOk result (FitsRoom room found.old.keys found.new.keys
         (names_from definition.now chosen.old.items lists.now)) }
 {
     let [values, ..] = lists else {

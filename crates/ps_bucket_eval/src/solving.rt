@@ -5,7 +5,7 @@ ghost use Rattle.ps_data.specs.Values.{compare_values};
 ghost use Rattle.ps_definitions.specs.declared.matches.Match.{Match as MatchData};
 ghost use Rattle.ps_definitions.specs.Branches.{has_parameter};
 ghost use Rattle.ps_bucket_eval.specs.Shown.{alone};
-ghost use Rattle.ps_bucket_eval.specs.Vectors.{compared as values_compared};
+ghost use Rattle.ps_bucket_eval.specs.Vectors.{match_values as values_compared};
 ghost use Rattle.ps_bucket_eval.specs.Solving.{gathered, allowed_by as allowed_by_match, common as in_common, narrowed_by, allowed as allowed_values};
 
 use crate::evaluating::value_on;

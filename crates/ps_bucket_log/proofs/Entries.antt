@@ -8,8 +8,8 @@ use Rattle.ps_data.specs.declared.ids.OpId.{OpId}
 use Rattle.ps_bucket_log.specs.declared.ops.Key.{Key}
 use Rattle.ps_bucket_log.specs.declared.ops.Op.{Op}
 use Rattle.ps_bucket_log.specs.declared.ops.Op.TheVariants.{Put, Remove, Move, Clear}
-use Rattle.ps_bucket_log.specs.Ops.{id_of, target_of, id_or_zero, later_id, greatest_target, is_put, is_entry, is_clear, is_of, has_key, has_clear, upto, past, newest}
-use Rattle.ps_bucket_log.specs.Buckets.{Bucket, held_after, after, fresh, bucket_of}
+use Rattle.ps_bucket_log.specs.Ops.{id_of, target_of, id_or_zero, later_id, greatest_target, is_put, is_entry, is_clear, is_of_key, has_key, has_clear, upto, past, newest}
+use Rattle.ps_bucket_log.specs.Buckets.{Bucket, held_after, after, fresh_bucket, bucket_of}
 use Rattle.ps_bucket_log.specs.Logs.{IsRising, AreEntries, cleared}
 use Rattle.ps_bucket_log.specs.Batches.{front_of, batch_of}
 use Rattle.ps_bucket_log.specs.Standing.{Matches, StandsFor}
@@ -42,13 +42,13 @@ grows_later original more written later = record {
 
 -- of a key, the last decides
 
-held_after-other : (key : Key) (held : Option Op) (op : Op) → is_of key op ≡ false → is_clear op ≡ false → held_after key held op ≡ held
+held_after-other : (key : Key) (held : Option Op) (op : Op) → is_of_key key op ≡ false → is_clear op ≡ false → held_after key held op ≡ held
 held_after-other key held (Put id own content sum) other no_clear = rw other refl
 held_after-other key held (Remove id own sum) other no_clear = rw other refl
 held_after-other key held (Move id sum target) other no_clear = refl
 held_after-other key held (Clear id sum target) other no_clear = cc
 
-held_after-own : (key : Key) (held : Option Op) (op : Op) → is_of key op ≡ true → held_after key held op ≡ cond (is_put op) (Some op) None
+held_after-own : (key : Key) (held : Option Op) (op : Op) → is_of_key key op ≡ true → held_after key held op ≡ cond (is_put op) (Some op) None
 held_after-own key held (Put id own content sum) mine = rw mine refl
 held_after-own key held (Remove id own sum) mine = rw mine refl
 held_after-own key held (Move id sum target) mine = cc
@@ -57,19 +57,19 @@ held_after-own key held (Clear id sum target) mine = cc
 held-others : (key : Key) (bucket : Bucket) (ops : List Op) → has_key key ops ≡ false → has_clear ops ≡ false → (fold after bucket ops).held key ≡ bucket.held key
 held-others key bucket [] others no_clear = refl
 held-others key bucket (op ∷ ops) others no_clear =
-    let other = or_parts (is_of key op) (has_key key ops) others in
+    let other = or_parts (is_of_key key op) (has_key key ops) others in
     let plain = or_parts (is_clear op) (has_clear ops) no_clear in
     held-others key (after bucket op) ops other.1 plain.1 ∙ held_after-other key (bucket.held key) op other.0 plain.0
 
 pub last_decides : (key : Key) (front back : List Op) (op : Op)
-    → is_of key op ≡ true → has_key key back ≡ false → has_clear back ≡ false
+    → is_of_key key op ≡ true → has_key key back ≡ false → has_clear back ≡ false
     → (bucket_of (front ++ op ∷ back)).held key ≡ cond (is_put op) (Some op) None
 last_decides key front back op mine others no_clear =
-    ap (λ (b : Bucket). b.held key) (fold-append after fresh front (op ∷ back))
+    ap (λ (b : Bucket). b.held key) (fold-append after fresh_bucket front (op ∷ back))
     ∙ held-others key (after (bucket_of front) op) back others no_clear
     ∙ held_after-own key ((bucket_of front).held key) op mine
 
-held_after-none : (key : Key) (op : Op) → is_of key op ≡ false → held_after key None op ≡ None
+held_after-none : (key : Key) (op : Op) → is_of_key key op ≡ false → held_after key None op ≡ None
 held_after-none key (Put id own content sum) other = rw other refl
 held_after-none key (Remove id own sum) other = rw other refl
 held_after-none key (Move id sum target) other = refl
@@ -78,11 +78,11 @@ held_after-none key (Clear id sum target) other = refl
 none-held : (key : Key) (bucket : Bucket) (ops : List Op) → bucket.held key ≡ None → has_key key ops ≡ false → (fold after bucket ops).held key ≡ None
 none-held key bucket [] none others = none
 none-held key bucket (op ∷ ops) none others =
-    let other = or_parts (is_of key op) (has_key key ops) others in
+    let other = or_parts (is_of_key key op) (has_key key ops) others in
     none-held key (after bucket op) ops (rw none (held_after-none key op other.0)) other.1
 
 pub none_is_held : (key : Key) (ops : List Op) → has_key key ops ≡ false → (bucket_of ops).held key ≡ None
-none_is_held key ops others = none-held key fresh ops refl others
+none_is_held key ops others = none-held key fresh_bucket ops refl others
 
 -- targets and the CLEAR are within the level
 

@@ -8,7 +8,7 @@ use Rattle.ps_bucket_log.specs.declared.ops.Op.{Op}
 use Rattle.ps_bucket_log.specs.Ops.{id_of, size_of, upto, past, newest}
 use Rattle.ps_bucket_log.specs.Buckets.{Bucket, after}
 use Rattle.ps_bucket_log.specs.Logs.{IsRising, IsLog, cleared}
-use Rattle.ps_bucket_log.specs.Batches.{most_ops, most_bytes, Fits, IsLongestFront, IsBatch, front_of, batch_of, batches_of}
+use Rattle.ps_bucket_log.specs.Batches.{most_ops, most_bytes, FitsBatch, IsLongestFront, IsBatch, front_of, batch_of, batches_of}
 use Rattle.ps_bucket_log.proofs.Slices.{past-rising, IsRising-past, IsRising-upto, next, head}
 use Rattle.ps_bucket_log.proofs.Histories.{position-newest}
 
@@ -71,7 +71,7 @@ front-longest (x ∷ xs) count bytes (suc k) later more within few small =
 front-first : (x : Op) (xs : List Op) → front_of 0 0 (x ∷ xs) ≡ x ∷ front_of 1 (size_of x) xs
 front-first x xs = rw (zero-add (size_of x)) refl
 
-first-fits : (x : Op) (xs : List Op) → (length (x ∷ front_of 1 (size_of x) xs) ≤ 1) ⊎ Fits (x ∷ front_of 1 (size_of x) xs)
+first-fits : (x : Op) (xs : List Op) → (length (x ∷ front_of 1 (size_of x) xs) ≤ 1) ⊎ FitsBatch (x ∷ front_of 1 (size_of x) xs)
 first-fits x xs = elim (cases_lt most_bytes (size_of x)) [
   | inl much ↦ rw (front-stuck 1 (size_of x) xs (omega arith) much) (inl (omega arith))
   | inr within ↦
@@ -80,7 +80,7 @@ first-fits x xs = elim (cases_lt most_bytes (size_of x)) [
 ]
 
 -- no longer front fits
-first-longest : (x : Op) (xs : List Op) (n : ℕ) → length (x ∷ front_of 1 (size_of x) xs) < n → n ≤ length (x ∷ xs) → Fits (take n (x ∷ xs)) → ⊥
+first-longest : (x : Op) (xs : List Op) (n : ℕ) → length (x ∷ front_of 1 (size_of x) xs) < n → n ≤ length (x ∷ xs) → FitsBatch (take n (x ∷ xs)) → ⊥
 first-longest x xs zero more within fits = omega arith
 first-longest x xs (suc n) more within fits =
     front-longest xs 1 (size_of x) n (omega arith) (omega arith) (omega arith)

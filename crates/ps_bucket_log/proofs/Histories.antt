@@ -10,8 +10,8 @@ use Rattle.std.specs.List.{AllZip, list_any}
 use Rattle.ps_bucket_log.specs.declared.ops.Key.{Key}
 use Rattle.ps_bucket_log.specs.declared.ops.Op.{Op}
 use Rattle.ps_bucket_log.specs.declared.ops.Op.TheVariants.{Put, Remove, Move, Clear}
-use Rattle.ps_bucket_log.specs.Ops.{id_of, checksum, id_or_zero, is_clear, is_of, upto, past, newest, sum_of, has_id, occurs, occurs_at, has_clear}
-use Rattle.ps_bucket_log.specs.Buckets.{Bucket, total_after, after, fresh, bucket_of}
+use Rattle.ps_bucket_log.specs.Ops.{id_of, checksum, id_or_zero, is_clear, is_of_key, upto, past, newest, sum_of, has_id, occurs, occurs_at, has_clear}
+use Rattle.ps_bucket_log.specs.Buckets.{Bucket, total_after, after, fresh_bucket, bucket_of}
 use Rattle.ps_bucket_log.specs.Logs.{IsRising, IsLog, cleared, rest}
 use Rattle.ps_bucket_log.specs.Standing.{Matches, ClearStands, FirstStands, StandsFor, IsHonestUpTo}
 use Rattle.ps_bucket_log.proofs.Slices.{past-rising, upto-rising, IsRising-past, IsRising-upto, upto-split, occurs-lower, has_id-above, newest-known}
@@ -28,7 +28,7 @@ past-append p xs more = filter-append (λ op. ltb p (id_of op)) xs more
 -- what doesn't occur in all doesn't occur in the front
 occurs-front : (key : Key) (c p : ℕ) (xs more : List Op) → occurs key c (past p (xs ++ more)) ≡ false → occurs key c (past p xs) ≡ false
 occurs-front key c p xs more none =
-    let split = list_any-append (λ op. is_of key op && leb (id_of op) c) (past p xs) (past p more) in
+    let split = list_any-append (λ op. is_of_key key op && leb (id_of op) c) (past p xs) (past p more) in
     let both : (occurs key c (past p xs) || occurs key c (past p more)) ≡ false = sym split ∙ ap (occurs key c) (sym (past-append p xs more)) ∙ none in
     (or_parts (occurs key c (past p xs)) (occurs key c (past p more)) both).0
 
@@ -49,7 +49,7 @@ honest_later original more op c later_op later_c bucket rising op_later c_later 
 upto-zero : (xs : List Op) → IsRising 0 xs → upto 0 xs ≡ []
 upto-zero xs rising = upto-rising 0 0 xs rising (omega arith)
 
-pub fresh_is_honest : (original : List Op) (op c : ℕ) → IsRising 0 original → IsHonestUpTo fresh original op c
+pub fresh_is_honest : (original : List Op) (op c : ℕ) → IsRising 0 original → IsHonestUpTo fresh_bucket original op c
 fresh_is_honest original op c rising =
     record {
       reached = omega arith;
@@ -92,8 +92,8 @@ occurs-behind key c p q (x ∷ xs) rising low =
     let later = occurs-behind key c p (id_of x) xs rising.1 (omega (arith, rising.0)) in
     elim (cases_lt p (id_of x)) [
       | inl above ↦
-          rw (lt-ltb p (id_of x) above) (or_from (is_of key x && leb (id_of x) c) (occurs key c (past p xs))
-          (and_right (is_of key x) (leb (id_of x) c) (lt-leb (id_of x) c (omega (arith, rising.0)))) later)
+          rw (lt-ltb p (id_of x) above) (or_from (is_of_key key x && leb (id_of x) c) (occurs key c (past p xs))
+          (and_right (is_of_key key x) (leb (id_of x) c) (lt-leb (id_of x) c (omega (arith, rising.0)))) later)
       | inr below ↦ rw (le-ltb p (id_of x) below) later
     ]
 
@@ -156,7 +156,7 @@ Matches-append original more level op entry (inr move) = inr (record {
   within = move.within;
   reach = move.reach;
   later = λ key mine.
-      let at = λ (x : Op). is_of key x && eqb (id_of x) move.target.0 in
+      let at = λ (x : Op). is_of_key key x && eqb (id_of x) move.target.0 in
       ap (list_any at) (past-append (id_of entry) original more) ∙ list_any-append at (past (id_of entry) original) (past (id_of entry) more)
       ∙ or_left (occurs_at key move.target.0 (past (id_of entry) original)) (occurs_at key move.target.0 (past (id_of entry) more)) (move.later key mine);
 })
@@ -259,7 +259,7 @@ has_clear-upto p (op ∷ ops) no_clear =
     ]
 
 total_is_sum_without : (high : ℕ) (ops : List Op) → has_clear ops ≡ false → (bucket_of (upto high ops)).total ≡ sum_of (upto high ops)
-total_is_sum_without high ops no_clear = total-added fresh (upto high ops) 0 (has_clear-upto high ops no_clear) refl
+total_is_sum_without high ops no_clear = total-added fresh_bucket (upto high ops) 0 (has_clear-upto high ops no_clear) refl
 
 total_is_sum_of : (log : List Op) (high : ℕ) → has_clear (rest log) ≡ false → (bucket_of (upto high log)).total ≡ sum_of (upto high log)
 total_is_sum_of [] high one_clear = refl
@@ -269,12 +269,12 @@ total_is_sum_of (Move id sum target ∷ ops) high one_clear = total_is_sum_witho
 total_is_sum_of (Clear id sum target ∷ ops) high one_clear = elim (cases_lt high id.0) [
   | inl above ↦ rw (lt-leb id.0 high above) (total_is_sum_without high ops one_clear)
   | inr within ↦ rw (le-leb id.0 high within)
-      (total-added (after fresh (Clear id sum target)) (upto high ops) (0 + sum.0) (has_clear-upto high ops one_clear) (rw zero-add refl))
+      (total-added (after fresh_bucket (Clear id sum target)) (upto high ops) (0 + sum.0) (has_clear-upto high ops one_clear) (rw zero-add refl))
 ]
 
 pub total_is_sum : (log : List Op) (high : ℕ) → IsLog log
     → ((bucket_of (upto high log)).total ≡ sum_of (upto high log)) × ((bucket_of (upto high log)).position ≡ newest (upto high log))
-total_is_sum log high is_log = (total_is_sum_of log high is_log.one_clear, position-newest fresh (upto high log))
+total_is_sum log high is_log = (total_is_sum_of log high is_log.one_clear, position-newest fresh_bucket (upto high log))
 
 -- two readers that differ in what they hold alone
 record SameTotals (a b : Bucket) : Type 0 where
@@ -296,7 +296,7 @@ SameTotals-behind : (ops original : List Op) (level high : ℕ) → AllZip (Matc
     → SameTotals (bucket_of (upto high ops)) (bucket_of (upto high original))
 SameTotals-behind ops original level high pairs rising =
     let all : AllZip (Matches original level) ops original = rw (past-rising 0 0 original rising (omega arith)) at pairs in
-    SameTotals-pairs original level fresh fresh (upto high ops) (upto high original) (AllZip-upto original level high ops original all)
+    SameTotals-pairs original level fresh_bucket fresh_bucket (upto high ops) (upto high original) (AllZip-upto original level high ops original all)
     (record { total = refl; position = refl })
 
 SameTotals-stands : (log original : List Op) (level high : ℕ) → StandsFor log original level → IsRising 0 original → cleared log ≤ high
@@ -309,15 +309,15 @@ SameTotals-stands (Remove id key sum ∷ ops) original level high stands rising 
 SameTotals-stands (Move id sum target ∷ ops) original level high stands rising low =
     SameTotals-behind (Move id sum target ∷ ops) original level high stands.pairs rising
 SameTotals-stands (Clear id sum target ∷ ops) original level high stands rising low =
-    let small = total-small fresh (upto id.0 original) (omega arith) in
+    let small = total-small fresh_bucket (upto id.0 original) (omega arith) in
     let split = upto-split high id.0 0 original rising low in
     let whole : bucket_of (upto high original) ≡ fold after (bucket_of (upto id.0 original)) (upto high (past id.0 original)) =
-    ap bucket_of split ∙ fold-append after fresh (upto id.0 original) (upto high (past id.0 original)) in
-    rw (le-leb id.0 high low, whole) (SameTotals-pairs original level (after fresh (Clear id sum target)) (bucket_of (upto id.0 original))
+    ap bucket_of split ∙ fold-append after fresh_bucket (upto id.0 original) (upto high (past id.0 original)) in
+    rw (le-leb id.0 high low, whole) (SameTotals-pairs original level (after fresh_bucket (Clear id sum target)) (bucket_of (upto id.0 original))
     (upto high ops) (upto high (past id.0 original)) (AllZip-upto original level high ops (past id.0 original) stands.pairs)
     (record {
       total = omega (arith, stands.front.sum);
-      position = sym (position-newest fresh (upto id.0 original) ∙ newest-known id.0 0 0 original rising stands.front.known);
+      position = sym (position-newest fresh_bucket (upto id.0 original) ∙ newest-known id.0 0 0 original rising stands.front.known);
     }))
 
 rest-without : (ops : List Op) → has_clear ops ≡ false → rest ops ≡ ops
@@ -330,5 +330,5 @@ pub same_sums : (log original : List Op) (level high : ℕ)
 same_sums log original level high stands rising no_clear low =
     let same = SameTotals-stands log original level high stands rising low in (
       sym (total_is_sum_of log high stands.one_clear) ∙ same.total ∙ total_is_sum_without high original no_clear,
-      sym (position-newest fresh (upto high log)) ∙ same.position ∙ position-newest fresh (upto high original),
+      sym (position-newest fresh_bucket (upto high log)) ∙ same.position ∙ position-newest fresh_bucket (upto high original),
     )

@@ -4,7 +4,7 @@ use Rattle.std.proofs.lemmas.Bool.{lt-ltb, le-ltb, lt-leb, le-leb, cases_lt, and
 use Rattle.ps_bucket_log.specs.declared.ops.Key.{Key}
 use Rattle.ps_bucket_log.specs.declared.ops.Op.{Op}
 use Rattle.ps_bucket_log.specs.declared.ops.Op.TheVariants.{Put, Remove, Move, Clear}
-use Rattle.ps_bucket_log.specs.Ops.{id_of, is_of, upto, past, place_after, occurs, op_without_target}
+use Rattle.ps_bucket_log.specs.Ops.{id_of, is_of_key, upto, past, place_after, occurs, op_without_target}
 use Rattle.ps_bucket_log.specs.Buckets.{Bucket, after, bucket_of}
 use Rattle.ps_bucket_log.specs.Logs.{IsRising}
 use Rattle.ps_bucket_log.specs.Standing.{IsHonestUpTo}
@@ -17,7 +17,7 @@ occurs-upto key p c (x ∷ xs) =
     let behind = occurs-upto key p c xs in
     elim (cases_lt c (id_of x)) [
       | inl above ↦ rw (lt-leb (id_of x) c above) (elim (cases_lt p (id_of x)) [
-        | inl over ↦ rw (lt-ltb p (id_of x) over, lt-leb (id_of x) c above, and_right (is_of key x) false refl) behind
+        | inl over ↦ rw (lt-ltb p (id_of x) over, lt-leb (id_of x) c above, and_right (is_of_key key x) false refl) behind
         | inr under ↦ rw (le-ltb p (id_of x) under) behind
       ])
       | inr below ↦ rw (le-leb (id_of x) c below) (elim (cases_lt p (id_of x)) [

@@ -8,8 +8,8 @@ use Rattle.ps_checksum.specs.declared.sums.Sum.{Sum}
 use Rattle.ps_bucket_log.specs.declared.ops.Key.{Key}
 use Rattle.ps_bucket_log.specs.declared.ops.Op.{Op}
 use Rattle.ps_bucket_log.specs.declared.ops.Op.TheVariants.{Put, Remove, Move, Clear}
-use Rattle.ps_bucket_log.specs.Ops.{id_of, checksum, target_of, id_or_zero, later_id, greatest_target, is_entry, is_of, upto, past, occurs}
-use Rattle.ps_bucket_log.specs.Buckets.{Bucket, total_after, held_after, after, fresh, bucket_of}
+use Rattle.ps_bucket_log.specs.Ops.{id_of, checksum, target_of, id_or_zero, later_id, greatest_target, is_entry, is_of_key, upto, past, occurs}
+use Rattle.ps_bucket_log.specs.Buckets.{Bucket, total_after, held_after, after, fresh_bucket, bucket_of}
 use Rattle.ps_bucket_log.specs.Logs.{IsRising}
 use Rattle.ps_bucket_log.specs.Standing.{IsMoveOf, Matches, ClearStands, StandsFor, IsHonestUpTo}
 use Rattle.ps_bucket_log.proofs.Slices.{next, Next, head, IsRising-past, past-past, occurs-from_at, occurs-lower}
@@ -32,13 +32,13 @@ total_after-entry total (Move id sum target) entry = cc
 total_after-entry total (Clear id sum target) entry = cc
 
 -- after an operation of its own, a key doesn't depend on what stood before; another's leaves it
-held_after-own : (key : Key) (a b : Option Op) (op : Op) → is_of key op ≡ true → held_after key a op ≡ held_after key b op
+held_after-own : (key : Key) (a b : Option Op) (op : Op) → is_of_key key op ≡ true → held_after key a op ≡ held_after key b op
 held_after-own key a b (Put id own content sum) mine = rw mine refl
 held_after-own key a b (Remove id own sum) mine = rw mine refl
 held_after-own key a b (Move id sum target) mine = cc
 held_after-own key a b (Clear id sum target) mine = cc
 
-held_after-other : (key : Key) (held : Option Op) (op : Op) → is_entry op ≡ true → is_of key op ≡ false → held_after key held op ≡ held
+held_after-other : (key : Key) (held : Option Op) (op : Op) → is_entry op ≡ true → is_of_key key op ≡ false → held_after key held op ≡ held
 held_after-other key held (Put id own content sum) entry other = rw other refl
 held_after-other key held (Remove id own sum) entry other = rw other refl
 held_after-other key held (Move id sum target) entry other = refl
@@ -46,11 +46,11 @@ held_after-other key held (Clear id sum target) entry other = cc
 
 -- what the original holds one operation further on
 bucket_of-next : (original : List Op) (p : ℕ) (x : Op) (xs : List Op) → Next p original x xs → bucket_of (upto (id_of x) original) ≡ after (bucket_of (upto p original)) x
-bucket_of-next original p x xs n = ap bucket_of n.upto_it ∙ fold-append after fresh (upto p original) (x ∷ [])
+bucket_of-next original p x xs n = ap bucket_of n.upto_it ∙ fold-append after fresh_bucket (upto p original) (x ∷ [])
 
 -- a key that doesn't occur further on, and isn't the next operation's, doesn't occur from here on
 occurs-next : (key : Key) (c p : ℕ) (original : List Op) (x : Op) (xs : List Op) → past p original ≡ x ∷ xs → Next p original x xs
-    → is_of key x ≡ false → occurs key c (past (id_of x) original) ≡ false → occurs key c (past p original) ≡ false
+    → is_of_key key x ≡ false → occurs key c (past (id_of x) original) ≡ false → occurs key c (past p original) ≡ false
 occurs-next key c p original x xs is n other none =
     let behind : occurs key c xs ≡ false = rw n.past_it at none in
     rw (is, other) behind
@@ -64,7 +64,7 @@ took_same original op c bucket x xs rising is within honest =
     record {
       reached = within;
       total = ap (λ t. total_after t x) honest.total ∙ sym (ap (λ (k : Bucket). k.total) e);
-      keys = λ key none. elim (cases_Bool (is_of key x)) [
+      keys = λ key none. elim (cases_Bool (is_of_key key x)) [
         | inl mine ↦ held_after-own key _ _ x mine ∙ sym (ap (λ (k : Bucket). k.held key) e)
         | inr other ↦
             ap (λ h. held_after key h x) (honest.keys key (occurs-next key c bucket.position original x xs is n other none))
@@ -86,7 +86,7 @@ took_move original level op c bucket v x xs rising is within move reach honest =
       total =
           ap (λ t. (t + checksum x) % 2 ^ 32) honest.total ∙ sym (total_after-entry _ x move.of_entry)
           ∙ sym (ap (λ (k : Bucket). k.total) e);
-      keys = λ key none. elim (cases_Bool (is_of key x)) [
+      keys = λ key none. elim (cases_Bool (is_of_key key x)) [
         | inl mine ↦ absurd (both_ways _ none (occurs-from_at key move.target.0 c (past (id_of x) original) low (move.later key mine)))
         | inr other ↦
             honest.keys key (occurs-next key c bucket.position original x xs is n other none)
@@ -98,7 +98,7 @@ took_clear : (original : List Op) (level op c : ℕ) (bucket : Bucket) (id : OpI
     → ClearStands original level id.0 sum.0 (id_or_zero target) → id.0 ≤ op → min level (id_or_zero target) ≤ c
     → IsHonestUpTo (after bucket (Clear id sum target)) original op c
 took_clear original level op c bucket id sum target clear within reach =
-    let small = total-small fresh (upto id.0 original) (omega arith) in
+    let small = total-small fresh_bucket (upto id.0 original) (omega arith) in
     let low : id_or_zero target ≤ c = omega (arith, clear.reach) in
     record {
       reached = within;

@@ -4,7 +4,7 @@ use Rattle.std.proofs.lemmas.Bool.{lt-ltb, le-ltb, le-leb, lt-leb, cases_lt, and
 use Rattle.std.proofs.lemmas.List.Elements.{filter-append}
 use Rattle.ps_bucket_log.specs.declared.ops.Key.{Key}
 use Rattle.ps_bucket_log.specs.declared.ops.Op.{Op}
-use Rattle.ps_bucket_log.specs.Ops.{id_of, is_of, upto, past, has_id, occurs, occurs_at}
+use Rattle.ps_bucket_log.specs.Ops.{id_of, is_of_key, upto, past, has_id, occurs, occurs_at}
 use Rattle.ps_bucket_log.specs.Logs.{IsRising}
 
 -- all of a rising list is past where it begins, and nothing of it up to there
@@ -110,20 +110,20 @@ pub occurs-from_at : (key : Key) (t c : ℕ) (xs : List Op) → t ≤ c → occu
 occurs-from_at key t c [] low at = cc
 occurs-from_at key t c (x ∷ xs) low at = elim (or_cases _ _ at) [
   | inl here ↦
-      let parts = and_parts (is_of key x) (eqb (id_of x) t) here in
+      let parts = and_parts (is_of_key key x) (eqb (id_of x) t) here in
       let same : id_of x ≡ t = eqb-true (id_of x) t parts.1 in
       rw (parts.0, le-leb (id_of x) c (omega arith)) refl
-  | inr later ↦ or_right (is_of key x && leb (id_of x) c) (occurs key c xs) (occurs-from_at key t c xs low later)
+  | inr later ↦ or_right (is_of_key key x && leb (id_of x) c) (occurs key c xs) (occurs-from_at key t c xs low later)
 ]
 
 occurs-higher : (key : Key) (t c : ℕ) (xs : List Op) → t ≤ c → occurs key t xs ≡ true → occurs key c xs ≡ true
 occurs-higher key t c [] low at = cc
 occurs-higher key t c (x ∷ xs) low at = elim (or_cases _ _ at) [
   | inl here ↦
-      let parts = and_parts (is_of key x) (leb (id_of x) t) here in
+      let parts = and_parts (is_of_key key x) (leb (id_of x) t) here in
       let within : id_of x ≤ t = leb-true (id_of x) t parts.1 in
       rw (parts.0, le-leb (id_of x) c (omega arith)) refl
-  | inr later ↦ or_right (is_of key x && leb (id_of x) c) (occurs key c xs) (occurs-higher key t c xs low later)
+  | inr later ↦ or_right (is_of_key key x && leb (id_of x) c) (occurs key c xs) (occurs-higher key t c xs low later)
 ]
 
 pub occurs-lower : (key : Key) (t c : ℕ) (xs : List Op) → t ≤ c → occurs key c xs ≡ false → occurs key t xs ≡ false
@@ -133,8 +133,8 @@ occurs-lower key t c xs low none = false_from_ne_true (occurs key t xs) (λ at. 
 pub occurs-rising : (key : Key) (c q : ℕ) (xs : List Op) → IsRising q xs → c ≤ q → occurs key c xs ≡ false
 occurs-rising key c q [] rising low = refl
 occurs-rising key c q (x ∷ xs) rising low =
-    or_from (is_of key x && leb (id_of x) c) (occurs key c xs)
-    (and_right (is_of key x) (leb (id_of x) c) (lt-leb (id_of x) c (omega (arith, rising.0))))
+    or_from (is_of_key key x && leb (id_of x) c) (occurs key c xs)
+    (and_right (is_of_key key x) (leb (id_of x) c) (lt-leb (id_of x) c (omega (arith, rising.0))))
     (occurs-rising key c (id_of x) xs rising.1 (omega (arith, rising.0)))
 
 -- an id of a rising list is past where it begins

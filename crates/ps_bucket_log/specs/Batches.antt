@@ -12,15 +12,15 @@ most_ops = 1000
 abbrev pub most_bytes : ℕ
 most_bytes = 1048576
 
-abbrev pub Fits : List Op → Type 0
-Fits ops = (length ops ≤ most_ops) × (sum_by size_of ops ≤ most_bytes)
+abbrev pub FitsBatch : List Op → Type 0
+FitsBatch ops = (length ops ≤ most_ops) × (sum_by size_of ops ≤ most_bytes)
 
 -- ops is the longest front of asked that fits, or the first operation alone, whatever its size
 pub record IsLongestFront (asked ops : List Op) : Type 0 where
   pub front : (left : List Op) × (asked ≡ ops ++ left)
-  pub fits : (length ops ≤ 1) ⊎ Fits ops
+  pub fits : (length ops ≤ 1) ⊎ FitsBatch ops
   pub first : asked ≢ [] → ops ≢ []
-  pub longest : (n : ℕ) → length ops < n → n ≤ length asked → ¬ Fits (take n asked)
+  pub longest : (n : ℕ) → length ops < n → n ≤ length asked → ¬ FitsBatch (take n asked)
 
 -- whether an operation of this size is taken, where count operations with this many bytes were taken before
 abbrev pub takes_next : ℕ → ℕ → ℕ → Bool

@@ -32,9 +32,9 @@ after bucket op = record {
   held = λ key. held_after key (bucket.held key) op;
 }
 
-abbrev pub fresh : Bucket
-fresh = record { position = 0; total = 0; held = λ key. None }
+abbrev pub fresh_bucket : Bucket
+fresh_bucket = record { position = 0; total = 0; held = λ key. None }
 
 -- what a reader holds that began afresh and took these operations
 abbrev pub bucket_of : List Op → Bucket
-bucket_of ops = fold after fresh ops
+bucket_of ops = fold after fresh_bucket ops

@@ -3,8 +3,8 @@
 use Rattle.std.specs.Prelude.{◌≡◌, ◌≢◌, ℕ, ◌<◌, ◌≤◌, true, false, if◌then◌else◌, ◌⊎◌, List, [], ◌∷◌, ◌++◌, Some, None, IfSome, fold, length, map}
 use Rattle.ps_bucket_log.specs.declared.ops.Key.{Key}
 use Rattle.ps_bucket_log.specs.declared.ops.Op.{Op}
-use Rattle.ps_bucket_log.specs.Ops.{is_put, is_of, upto, past, newest, place_after, sum_of, has_clear, has_key, greatest_target, op_without_target}
-use Rattle.ps_bucket_log.specs.Buckets.{Bucket, after, bucket_of, fresh}
+use Rattle.ps_bucket_log.specs.Ops.{is_put, is_of_key, upto, past, newest, place_after, sum_of, has_clear, has_key, greatest_target, op_without_target}
+use Rattle.ps_bucket_log.specs.Buckets.{Bucket, after, bucket_of, fresh_bucket}
 use Rattle.ps_bucket_log.specs.Logs.{IsRising, AreEntries, IsLog, cleared}
 use Rattle.ps_bucket_log.specs.Batches.{IsBatch, batch_of, batches_of}
 use Rattle.ps_bucket_log.specs.Standing.{StandsFor, IsHonest, IsHonestUpTo}
@@ -12,7 +12,7 @@ use Rattle.ps_bucket_log.specs.Standing.{StandsFor, IsHonest, IsHonestUpTo}
 -- of a key, the last PUT or REMOVE decides: a PUT is held, a REMOVE is not
 abbrev pub LastDecides : Type 0
 LastDecides = (key : Key) (front back : List Op) (op : Op)
-    → is_of key op ≡ true → has_key key back ≡ false → has_clear back ≡ false
+    → is_of_key key op ≡ true → has_key key back ≡ false → has_clear back ≡ false
     → (bucket_of (front ++ op ∷ back)).held key ≡ (if is_put op then Some op else None)
 
 -- where there is none, nothing is held
@@ -43,7 +43,7 @@ WholeAtNewest = (original : List Op) (op c : ℕ) (bucket : Bucket)
 
 -- a reader that begins afresh is honest
 abbrev pub FreshIsHonest : Type 0
-FreshIsHonest = (original : List Op) (op c : ℕ) → AreEntries 0 original → IsHonestUpTo fresh original op c
+FreshIsHonest = (original : List Op) (op c : ℕ) → AreEntries 0 original → IsHonestUpTo fresh_bucket original op c
 
 -- who is honest stays so when more is written and committed
 abbrev pub HonestLater : Type 0

@@ -54,11 +54,11 @@ abbrev pub same_key : Key → Key → Bool
 same_key a b = bytes_eq a.kind b.kind && bytes_eq a.id b.id && bytes_eq a.subkey b.subkey
 
 -- a PUT or a REMOVE of the key
-abbrev pub is_of : Key → Op → Bool
-is_of key (Put id own content sum) = same_key key own
-is_of key (Remove id own sum) = same_key key own
-is_of key (Move id sum target) = false
-is_of key (Clear id sum target) = false
+abbrev pub is_of_key : Key → Op → Bool
+is_of_key key (Put id own content sum) = same_key key own
+is_of_key key (Remove id own sum) = same_key key own
+is_of_key key (Move id sum target) = false
+is_of_key key (Clear id sum target) = false
 
 -- the operations with ids up to p, and those with ids past p
 abbrev pub upto : ℕ → List Op → List Op
@@ -85,15 +85,15 @@ has_id p ops = list_any (λ op. id_of op == p) ops
 
 -- there is a PUT or a REMOVE of the key
 abbrev pub has_key : Key → List Op → Bool
-has_key key ops = list_any (is_of key) ops
+has_key key ops = list_any (is_of_key key) ops
 
 -- there is a PUT or a REMOVE of the key with an id up to c
 abbrev pub occurs : Key → ℕ → List Op → Bool
-occurs key c ops = list_any (λ op. is_of key op && nat_le (id_of op) c) ops
+occurs key c ops = list_any (λ op. is_of_key key op && nat_le (id_of op) c) ops
 
 -- there is a PUT or a REMOVE of the key with this id
 abbrev pub occurs_at : Key → ℕ → List Op → Bool
-occurs_at key p ops = list_any (λ op. is_of key op && id_of op == p) ops
+occurs_at key p ops = list_any (λ op. is_of_key key op && id_of op == p) ops
 
 abbrev pub has_clear : List Op → Bool
 has_clear ops = list_any is_clear ops

@@ -5,7 +5,7 @@ use Rattle.ps_data.specs.declared.ids.OpId.{OpId}
 use Rattle.ps_bucket_log.specs.declared.ops.Key.{Key}
 use Rattle.ps_bucket_log.specs.declared.ops.Op.{Op}
 use Rattle.ps_bucket_log.specs.declared.ops.Op.TheVariants.{Put, Remove, Move, Clear}
-use Rattle.ps_bucket_log.specs.Ops.{id_of, checksum, is_entry, is_of, upto, past, has_id, occurs, occurs_at, has_clear, id_or_zero}
+use Rattle.ps_bucket_log.specs.Ops.{id_of, checksum, is_entry, is_of_key, upto, past, has_id, occurs, occurs_at, has_clear, id_or_zero}
 use Rattle.ps_bucket_log.specs.Buckets.{Bucket, bucket_of}
 use Rattle.ps_bucket_log.specs.Logs.{cleared, rest}
 
@@ -17,7 +17,7 @@ pub record IsMoveOf (original : List Op) (level : ℕ) (op entry : Op) : Type 0 
   pub of_entry : is_entry entry ≡ true
   pub within : id_of entry ≤ level
   pub reach : target.0 ≤ level
-  pub later : (key : Key) → is_of key entry ≡ true → occurs_at key target.0 (past (id_of entry) original) ≡ true
+  pub later : (key : Key) → is_of_key key entry ≡ true → occurs_at key target.0 (past (id_of entry) original) ≡ true
 
 -- behind the CLEAR each operation is the original's, or a MOVE in its place
 abbrev pub Matches : List Op → ℕ → Op → Op → Type 0

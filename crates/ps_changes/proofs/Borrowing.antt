@@ -23,7 +23,7 @@ use Rattle.serde_json.specs.Read.{number_of, of_json, of_items, of_members, max_
 use Rattle.serde_json.specs.View.{items_of}
 use Rattle.serde_json.proofs.Views.{get_member-put, get_member-put_other}
 use Rattle.ps_data.specs.Documents.{json_of}
-use Rattle.ps_changes.specs.Borrowed.{fits, items_fit, members_fit, data_in, items_in, members_in, seen, entries_seen}
+use Rattle.ps_changes.specs.Borrowed.{fits, items_fit, members_fit, data_in, items_in, members_in, borrowed_data, entries_seen}
 
 -- ---- the data of a text
 
@@ -116,17 +116,17 @@ entries_match Greater a b c = refl
 
 -- an entry more
 pub entries_more : (es : List (Bor (List ℕ) × Bor (Borrowed Global))) (name : Bor (List ℕ)) (value : Bor (Borrowed Global))
-    → entries_seen (insert_entry (λ x y. slice_cmp nat_cmp x.now y.now) es name value) ≡ put name.now (seen value.now) (entries_seen es)
+    → entries_seen (insert_entry (λ x y. slice_cmp nat_cmp x.now y.now) es name value) ≡ put name.now (borrowed_data value.now) (entries_seen es)
 entries_more [] name value = refl
 entries_more (e ∷ es) name value = entries_match (slice_cmp nat_cmp name.now e.0.now) _ _ _ ∙ rw (entries_more es name value)
 
-seen_of : (found : Option (Bor (Borrowed Global))) → option_map (λ v. seen v.now) found ≡ option_map data_in (option_map (λ v. value_view v.now) found)
+seen_of : (found : Option (Bor (Borrowed Global))) → option_map (λ v. borrowed_data v.now) found ≡ option_map data_in (option_map (λ v. value_view v.now) found)
 seen_of None = refl
 seen_of (Some v) = refl
 
 -- the value of a member, as data
 pub member_seen : (name : List ℕ) (borrowed : Borrowed Global) (found : Option (Bor (Borrowed Global))) → option_map (λ v. value_view v.now) found ≡ json_find.get name (value_view borrowed)
-    → option_map (λ v. seen v.now) found ≡ get name (seen borrowed)
+    → option_map (λ v. borrowed_data v.now) found ≡ get name (borrowed_data borrowed)
 member_seen name borrowed found h = seen_of found ∙ ap (option_map data_in) h ∙ sym (get_is name (value_view borrowed))
 
 -- ---- whole texts
@@ -162,6 +162,6 @@ no_text bytes h = no_text_by bytes (is_utf8 bytes) refl h
 
 -- ---- JSON that owns its texts
 
-pub each_seen : (borrowed : List (Borrowed Global)) → items_of (map seen borrowed) ≡ items_in (items_view borrowed)
+pub each_seen : (borrowed : List (Borrowed Global)) → items_of (map borrowed_data borrowed) ≡ items_in (items_view borrowed)
 each_seen [] = refl
-each_seen (b ∷ bs) = ap (item (seen b)) (each_seen bs)
+each_seen (b ∷ bs) = ap (item (borrowed_data b)) (each_seen bs)

@@ -15,7 +15,7 @@ use Rattle.ps_rows.specs.Rows.{is_id, rises_from, is_row}
 use Rattle.ps_changes.specs.Types.{ChangeFault}
 use Rattle.ps_changes.specs.Members.{◌>>=◌}
 use Rattle.ps_changes.specs.Lines.{value_in, column_of, columns_of}
-use Rattle.ps_changes.specs.Borrowed.{seen, entries_seen}
+use Rattle.ps_changes.specs.Borrowed.{borrowed_data, entries_seen}
 
 -- a name and a value, which are borrowed
 abbrev pub Entry : Type 0
@@ -52,7 +52,7 @@ rises : (name : List ℕ) (es : List Entry) (cs : List Column) → AllByRecursio
 unfolding IsStrictlySortedBy
 rises name [] cs above sorted h = let e : [] ≡ cs = cc in subst (λ xs. rises_from name xs ≡ true) e refl
 rises name (e ∷ es) cs above sorted h =
-    by_cases e.0.now (is_id e.0.now) (value_in (seen e.1.now)) (columns_of (entries_seen es)) cs h
+    by_cases e.0.now (is_id e.0.now) (value_in (borrowed_data e.1.now)) (columns_of (entries_seen es)) cs h
     (λ id rest. rises name es cs above.1 sorted.1 rest)
     (λ value rest other read left is. subst (λ xs. rises_from name xs ≡ true) (sym is)
     (above_id (is_id e.0.now) (rises_from e.0.now rest) (slice_cmp nat_cmp name e.0.now) above.0 other (rises e.0.now es rest sorted.0 sorted.1 left)))
@@ -62,7 +62,7 @@ pub in_order : (es : List Entry) (cs : List Column) → IsStrictlySortedBy (λ x
 unfolding IsStrictlySortedBy
 in_order [] cs sorted h = let e : [] ≡ cs = cc in subst (λ xs. is_row xs ≡ true) e refl
 in_order (e ∷ es) cs sorted h =
-    by_cases e.0.now (is_id e.0.now) (value_in (seen e.1.now)) (columns_of (entries_seen es)) cs h
+    by_cases e.0.now (is_id e.0.now) (value_in (borrowed_data e.1.now)) (columns_of (entries_seen es)) cs h
     (λ id rest. in_order es cs sorted.1 rest)
     (λ value rest other read left is. subst (λ xs. is_row xs ≡ true) (sym is)
     (rw (other, rises e.0.now es rest sorted.0 sorted.1 left) refl))

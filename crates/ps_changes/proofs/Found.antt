@@ -9,7 +9,7 @@ use Rattle.ps_data.specs.declared.columns.Column.{Column}
 use Rattle.ps_data.specs.declared.ids.Position.{Position}
 use Rattle.ps_data.specs.declared.values.Value.{Value}
 use Rattle.ps_values.specs.declared.conversions.ValueFault.{ValueFault}
-use Rattle.ps_data.specs.Conversions.{value_of}
+use Rattle.ps_data.specs.Conversions.{json_value}
 use Rattle.ps_values.specs.ValueFaults.{first_fault, numbers_of, IsValueOf}
 use Rattle.ps_data.specs.Documents.{json_of}
 use Rattle.ps_values.specs.Laws.{ReadsWhatIsWritten}
@@ -17,8 +17,8 @@ use Rattle.ps_data.specs.Numbers.{decimal_of, greatest}
 use Rattle.ps_changes.specs.Types.{Change, Transaction, ChangeFault, LineTooLong, BadJson, BadShape, BadPosition, BadValue}
 use Rattle.ps_changes.specs.Members.{◌>>=◌, or_fault}
 use Rattle.ps_rows.specs.Rows.{is_id}
-use Rattle.ps_changes.specs.Lines.{text_at, value_in, columns_of, row_in, row_of, filled, change_of, changes_of, changes_in, position_of, transaction_of, short, shaped, json_within, json_such, longest}
-use Rattle.ps_changes.specs.Grammar.{Has, AreColumns, no_columns, passed_over, with_column, HasRow, IsChange, AreChanges, no_changes, with_change, HasChanges, IsTransaction, IsTextOf}
+use Rattle.ps_changes.specs.Lines.{text_at, value_in, columns_of, row_in, change_row, filled, change_of, changes_in_items, changes_in, position_of, transaction_of, short, shaped, json_within, json_such, longest}
+use Rattle.ps_changes.specs.Grammar.{Has, AreColumns, no_columns, passed_over, with_column, HasRow, IsChange, AreChanges, no_changes, with_change, HasChanges, IsTransaction, IsJsonTextOf}
 use Rattle.ps_changes.proofs.Columns.{by_cases}
 
 -- an answer of two readings, one after the other
@@ -75,7 +75,7 @@ no_fault (Some fault) h = absurd (cc)
 
 value_found : (d : Json) (value : Value) → value_in d ≡ Ok value → IsValueOf d (Ok value)
 value_found d value h =
-    let own = held (is_none (first_fault (numbers_of d))) (value_of d) value BadValue h in
+    let own = held (is_none (first_fault (numbers_of d))) (json_value d) value BadValue h in
     (no_fault (first_fault (numbers_of d)) own.0, sym own.1)
 
 other_name : (name : List ℕ) → is_id name ≡ false → name ≢ codes "id"
@@ -104,7 +104,7 @@ row_by true delete d op row p q has h = row_in_found d row (has ∙ ap (λ text.
 row_by false true d op row p q has h = let e : None ≡ row = cc in subst (HasRow d) e (has ∙ ap (λ text. Some (string text)) (q refl))
 row_by false false d op row p q has h = absurd (cc)
 
-row_found : (d : Json) (op : List ℕ) (row : Option (List Column)) → text_at (codes "op") d ≡ Ok op → row_of op d ≡ Ok row → HasRow d row
+row_found : (d : Json) (op : List ℕ) (row : Option (List Column)) → text_at (codes "op") d ≡ Ok op → change_row op d ≡ Ok row → HasRow d row
 row_found d op row text h =
     row_by (bytes_eq op (codes "PUT")) (bytes_eq op (codes "DELETE")) d op row (bytes_eq-Decides op (codes "PUT")).0 (bytes_eq-Decides op (codes "DELETE")).0 (text_found (codes "op") op d text) h
 
@@ -119,7 +119,7 @@ change_found d change h =
     bind (filled text) _ change h1 (λ table is_filled h2.
     bind (text_at (codes "id") d) _ change h2 (λ id has_id h3.
     bind (text_at (codes "op") d) _ change h3 (λ op has_op h4.
-    bind (row_of op d) (λ row. Ok (record { table = table; id = id; row = row })) change h4 (λ row has_row h5.
+    bind (change_row op d) (λ row. Ok (record { table = table; id = id; row = row })) change h4 (λ row has_row h5.
     let made : Change = record { table = table; id = id; row = row } in
     let e : made ≡ change = cc in
     let own = filled_by text table is_filled in
@@ -130,17 +130,17 @@ change_found d change h =
       row = row_found d op row has_op has_row;
     }))))))
 
-changes_found : (ds : Items) (changes : List Change) → changes_of ds ≡ Ok changes → AreChanges ds changes
+changes_found : (ds : Items) (changes : List Change) → changes_in_items ds ≡ Ok changes → AreChanges ds changes
 changes_found no_items changes h = let e : [] ≡ changes = cc in subst (AreChanges no_items) e no_changes
 changes_found (item d ds) changes h =
-    bind (change_of d) (λ change. changes_of ds >>= λ rest. Ok (change ∷ rest)) changes h (λ change is h1.
-    bind (changes_of ds) (λ rest. Ok (change ∷ rest)) changes h1 (λ rest are h2.
+    bind (change_of d) (λ change. changes_in_items ds >>= λ rest. Ok (change ∷ rest)) changes h (λ change is h1.
+    bind (changes_in_items ds) (λ rest. Ok (change ∷ rest)) changes h1 (λ rest are h2.
     let e : change ∷ rest ≡ changes = cc in
     subst (AreChanges (item d ds)) e (with_change d ds change rest (change_found d change is) (changes_found ds rest are))))
 
 pub list_found : (d : Json) (changes : List Change) → changes_in d ≡ Ok changes → HasChanges d changes
 list_found d changes h =
-    bind (or_fault BadShape (option_and_then as_array (get (codes "changes") d))) changes_of changes h (λ ds has more.
+    bind (or_fault BadShape (option_and_then as_array (get (codes "changes") d))) changes_in_items changes h (λ ds has more.
     record { list = ds; is = list_there (get (codes "changes") d) ds (there BadShape _ ds has); each = changes_found ds changes more })
 
 -- ---- transactions
@@ -171,7 +171,7 @@ transaction_found law d transaction h =
 
 -- ---- bytes
 
-pub text_of_found : (is_such : Json → Bool) (Is : Json → Type 0) (bytes : List ℕ) (json : Json) → json_such is_such bytes ≡ Ok json → Is json → IsTextOf Is bytes
+pub text_of_found : (is_such : Json → Bool) (Is : Json → Type 0) (bytes : List ℕ) (json : Json) → json_such is_such bytes ≡ Ok json → Is json → IsJsonTextOf Is bytes
 text_of_found is_such Is bytes json h is =
     bind (json_within bytes) (shaped is_such) json h (λ d within such.
     bind (short bytes) (λ line. or_fault BadJson (json_of line)) d within (λ line fits read.

@@ -10,7 +10,7 @@ use Rattle.ps_changes.specs.Members.{◌>>=◌, or_fault, Reads}
 use Rattle.ps_changes.specs.Shapes.{is_change, is_transaction}
 use Rattle.ps_changes.specs.Lines.{shaped, change_of, transaction_of}
 use Rattle.ps_changes.specs.Grammar.{IsChange, AreChanges, no_changes, with_change, IsTransaction}
-use Rattle.ps_changes.specs.Writing.{IsWritable}
+use Rattle.ps_changes.specs.Writing.{IsWritableTransaction}
 use Rattle.ps_changes.specs.LongLines.{transaction_in, change_in, long_line_of, long_change_of, IsLongLine, IsLongChange}
 use Rattle.ps_changes.proofs.Found.{bind, transaction_found, change_found}
 use Rattle.ps_changes.proofs.Only.{transaction_only, change_only}
@@ -94,7 +94,7 @@ changes_filled : {ds : Items} {changes : List Change} → AreChanges ds changes 
 changes_filled no_changes = All-nil (λ change. change.table ≢ [])
 changes_filled (with_change d ds change changes is more) = All-cons (λ c. c.table ≢ []) change changes is.filled (changes_filled more)
 
-pub read_is_writable : ReadsWhatIsWritten → (result : Result Transaction ChangeFault) (d : Json) → Reads result (transaction_in d) → IfOk result IsWritable
+pub read_is_writable : ReadsWhatIsWritten → (result : Result Transaction ChangeFault) (d : Json) → Reads result (transaction_in d) → IfOk result IsWritableTransaction
 read_is_writable law (Ok transaction) d h =
     let is = transaction_spelled law d transaction h in
     record { above = is.above; within = is.within; filled = changes_filled is.changes.each }

@@ -11,8 +11,8 @@ use Rattle.ps_data.specs.Numbers.{decimal_of}
 use Rattle.ps_changes.specs.Types.{Change, Transaction}
 use Rattle.ps_rows.specs.Rows.{is_id}
 use Rattle.ps_changes.specs.Shapes.{is_change, are_changes, has_changes, is_transaction}
-use Rattle.ps_changes.specs.Lines.{value_in, columns_of, change_of, changes_of, changes_in, transaction_of, json_such, longest}
-use Rattle.ps_changes.specs.Grammar.{Has, AreColumns, no_columns, passed_over, with_column, HasRow, IsChange, AreChanges, no_changes, with_change, HasChanges, IsTransaction, IsTextOf}
+use Rattle.ps_changes.specs.Lines.{value_in, columns_of, change_of, changes_in_items, changes_in, transaction_of, json_such, longest}
+use Rattle.ps_changes.specs.Grammar.{Has, AreColumns, no_columns, passed_over, with_column, HasRow, IsChange, AreChanges, no_changes, with_change, HasChanges, IsTransaction, IsJsonTextOf}
 
 value_only : (d : Json) (value : Value) → IsValueOf d (Ok value) → value_in d ≡ Ok value
 value_only d value h = rw h.0 (ap Ok (sym h.1))
@@ -42,7 +42,7 @@ change_by d table id (Some columns) has_table filled has_id h =
 pub change_only : (d : Json) (change : Change) → IsChange d change → (is_change d ≡ true) × (change_of d ≡ Ok change)
 change_only d change h = change_by d change.table change.id change.row h.table h.filled h.id h.row
 
-changes_only : {ds : Items} {changes : List Change} → AreChanges ds changes → (are_changes ds ≡ true) × (changes_of ds ≡ Ok changes)
+changes_only : {ds : Items} {changes : List Change} → AreChanges ds changes → (are_changes ds ≡ true) × (changes_in_items ds ≡ Ok changes)
 changes_only no_changes = (refl, refl)
 changes_only (with_change d ds change changes is more) =
     let here = change_only d change is in
@@ -62,5 +62,5 @@ transaction_only law d transaction h =
     let positive : nat_lt 0 n ≡ true = lt-ltb 0 n h.above in
     (rw (h.position, list.0) refl, rw (h.position, read, positive, list.1) refl)
 
-pub text_of_only : (is_such : Json → Bool) (Is : Json → Type 0) (bytes : List ℕ) → (h : IsTextOf Is bytes) → is_such h.json ≡ true → json_such is_such bytes ≡ Ok h.json
+pub text_of_only : (is_such : Json → Bool) (Is : Json → Type 0) (bytes : List ℕ) → (h : IsJsonTextOf Is bytes) → is_such h.json ≡ true → json_such is_such bytes ≡ Ok h.json
 text_of_only is_such Is bytes h such = rw (le-leb (length bytes) longest h.short, h.read, such) refl

@@ -4,7 +4,7 @@ use Rattle.ps_values.specs.Laws.{ReadsWhatIsWritten}
 use Rattle.ps_changes.specs.Types.{Change, Transaction, ChangeFault}
 use Rattle.ps_changes.specs.Members.{◌>>=◌, Reads}
 use Rattle.ps_changes.specs.Shapes.{is_change, has_changes, is_transaction}
-use Rattle.ps_changes.specs.Lines.{change_of, changes_in, transaction_of, json_such, line_of, body_of, lone_change_of}
+use Rattle.ps_changes.specs.Lines.{change_of, changes_in, transaction_of, json_such, transaction_of_line, body_of, lone_change_of}
 use Rattle.ps_changes.specs.Grammar.{IsChange, HasChanges, IsTransaction, IsLine, IsBody, IsLoneChange}
 use Rattle.ps_changes.proofs.Found.{bind, list_found, transaction_found, text_of_found, change_found}
 use Rattle.ps_changes.proofs.Only.{list_only, transaction_only, text_of_only, change_only}
@@ -15,24 +15,24 @@ answer result meant x h e = subst (Reads result) e h
 
 -- ---- lines
 
-pub line_found : ReadsWhatIsWritten → (bytes : List ℕ) (transaction : Transaction) → line_of bytes ≡ Ok transaction → IsLine bytes transaction
-unfolding line_of
+pub line_found : ReadsWhatIsWritten → (bytes : List ℕ) (transaction : Transaction) → transaction_of_line bytes ≡ Ok transaction → IsLine bytes transaction
+unfolding transaction_of_line
 line_found law bytes transaction h =
     bind (json_such is_transaction bytes) transaction_of transaction h (λ json such more.
     text_of_found is_transaction (λ d. IsTransaction d transaction) bytes json such (transaction_found law json transaction more))
 
-pub line_only : ReadsWhatIsWritten → (bytes : List ℕ) (transaction : Transaction) → IsLine bytes transaction → line_of bytes ≡ Ok transaction
-unfolding line_of
+pub line_only : ReadsWhatIsWritten → (bytes : List ℕ) (transaction : Transaction) → IsLine bytes transaction → transaction_of_line bytes ≡ Ok transaction
+unfolding transaction_of_line
 line_only law bytes transaction h =
     let own = transaction_only law h.json transaction h.is in
     ap (λ r. r >>= transaction_of) (text_of_only is_transaction (λ d. IsTransaction d transaction) bytes h own.0) ∙ own.1
 
-pub found_line : ReadsWhatIsWritten → (result : Result Transaction ChangeFault) (bytes : List ℕ) → Reads result (line_of bytes) → IfOk result (λ transaction. IsLine bytes transaction)
+pub found_line : ReadsWhatIsWritten → (result : Result Transaction ChangeFault) (bytes : List ℕ) → Reads result (transaction_of_line bytes) → IfOk result (λ transaction. IsLine bytes transaction)
 found_line law (Ok transaction) bytes h = line_found law bytes transaction h
 found_line law (Err fault) bytes h = tt
 
-pub only_line : ReadsWhatIsWritten → (result : Result Transaction ChangeFault) (bytes : List ℕ) (transaction : Transaction) → Reads result (line_of bytes) → IsLine bytes transaction → Reads result (Ok transaction)
-only_line law result bytes transaction h spelled = answer result (line_of bytes) transaction h (line_only law bytes transaction spelled)
+pub only_line : ReadsWhatIsWritten → (result : Result Transaction ChangeFault) (bytes : List ℕ) (transaction : Transaction) → Reads result (transaction_of_line bytes) → IsLine bytes transaction → Reads result (Ok transaction)
+only_line law result bytes transaction h spelled = answer result (transaction_of_line bytes) transaction h (line_only law bytes transaction spelled)
 
 -- ---- bodies
 

@@ -24,9 +24,9 @@ use Rattle.ps_data.specs.Documents.{data_of}
 use Rattle.ps_values.specs.Laws.{ReadsWhatIsWritten}
 use Rattle.ps_changes.specs.Types.{Change, Transaction}
 use Rattle.ps_rows.specs.Rows.{is_id, rises_from, is_row}
-use Rattle.ps_changes.specs.Lines.{longest, line_of, lone_change_of}
-use Rattle.ps_changes.specs.Grammar.{AreColumns, no_columns, with_column, IsChange, AreChanges, no_changes, with_change, IsTransaction, IsTextOf}
-use Rattle.ps_changes.specs.Writing.{members_of, with_row, IsWritable, json_with, change_json, transaction_json, change_text, line_text, ReadsBack}
+use Rattle.ps_changes.specs.Lines.{longest, transaction_of_line, lone_change_of}
+use Rattle.ps_changes.specs.Grammar.{AreColumns, no_columns, with_column, IsChange, AreChanges, no_changes, with_change, IsTransaction, IsJsonTextOf}
+use Rattle.ps_changes.specs.Writing.{column_members, with_row, IsWritableTransaction, json_with, change_json, transaction_json, change_text, line_text, ReadsBack}
 use Rattle.ps_changes.specs.LongLines.{transaction_in}
 use Rattle.ps_changes.proofs.LongLines.{transaction_read}
 use Rattle.ps_changes.proofs.Spelling.{line_only, lone_change_only}
@@ -48,7 +48,7 @@ value_plain (Int (pos n)) = refl
 value_plain (Int (negsuc n)) = refl
 value_plain (Text t) = refl
 
-members_plain : (cs : List Column) → members_have_float (members_of cs) ≡ false
+members_plain : (cs : List Column) → members_have_float (column_members cs) ≡ false
 members_plain [] = refl
 members_plain (c ∷ cs) = rw (value_plain c.value) (members_plain cs)
 
@@ -83,7 +83,7 @@ value_shallow Null = omega arith
 value_shallow (Int n) = omega arith
 value_shallow (Text t) = omega arith
 
-members_shallow : (cs : List Column) → members_depth (members_of cs) ≤ 0
+members_shallow : (cs : List Column) → members_depth (column_members cs) ≤ 0
 members_shallow [] = omega arith
 members_shallow (c ∷ cs) = let here = value_shallow c.value in let rest = members_shallow cs in omega (arith, here, rest)
 
@@ -113,18 +113,18 @@ int_back (negsuc n) h = (refl, refl)
 no_id : (name : List ℕ) → not (is_id name) ≡ true → name ≢ codes "id"
 no_id name h e = let k : is_id name ≡ true = (bytes_eq-Decides name (codes "id")).1 e in cc
 
-rising_spelled : (name : List ℕ) (cs : List Column) → rises_from name cs ≡ true → All ReadsBack cs → AreColumns (members_of cs) cs
+rising_spelled : (name : List ℕ) (cs : List Column) → rises_from name cs ≡ true → All ReadsBack cs → AreColumns (column_members cs) cs
 rising_spelled name [] h back = no_columns
 rising_spelled name (c ∷ cs) h back =
     let parts = both (is_lt (slice_cmp nat_cmp name c.name) && not (is_id c.name)) (rises_from c.name cs) h in
     let own = both (is_lt (slice_cmp nat_cmp name c.name)) (not (is_id c.name)) parts.0 in
-    with_column c.name (data_of c.value) (members_of cs) c.value cs (no_id c.name own.1) (All-head ReadsBack c cs back) (rising_spelled c.name cs parts.1 (All-tail ReadsBack c cs back))
+    with_column c.name (data_of c.value) (column_members cs) c.value cs (no_id c.name own.1) (All-head ReadsBack c cs back) (rising_spelled c.name cs parts.1 (All-tail ReadsBack c cs back))
 
-pub row_spelled : (cs : List Column) → is_row cs ≡ true → All ReadsBack cs → AreColumns (members_of cs) cs
+pub row_spelled : (cs : List Column) → is_row cs ≡ true → All ReadsBack cs → AreColumns (column_members cs) cs
 row_spelled [] h back = no_columns
 row_spelled (c ∷ cs) h back =
     let own = both (not (is_id c.name)) (rises_from c.name cs) h in
-    with_column c.name (data_of c.value) (members_of cs) c.value cs (no_id c.name own.0) (All-head ReadsBack c cs back) (rising_spelled c.name cs own.1 (All-tail ReadsBack c cs back))
+    with_column c.name (data_of c.value) (column_members cs) c.value cs (no_id c.name own.0) (All-head ReadsBack c cs back) (rising_spelled c.name cs own.1 (All-tail ReadsBack c cs back))
 
 -- a name below all that rise from it
 below : (name : List ℕ) (done : List Column) (column : Column) (more : List Column) → rises_from name (done ++ column ∷ more) ≡ true → slice_cmp nat_cmp name column.name ≡ Less
@@ -137,7 +137,7 @@ below name (c ∷ done) column more h =
 
 -- what is above all goes last
 put_rising : (name : List ℕ) (done : List Column) (column : Column) (more : List Column) → rises_from name (done ++ column ∷ more) ≡ true
-    → put column.name (data_of column.value) (members_of done) ≡ members_of (done ++ column ∷ [])
+    → put column.name (data_of column.value) (column_members done) ≡ column_members (done ++ column ∷ [])
 put_rising name [] column more h = refl
 put_rising name (c ∷ done) column more h =
     let rest = (both (is_lt (slice_cmp nat_cmp name c.name) && not (is_id c.name)) (rises_from c.name (done ++ column ∷ more)) h).1 in
@@ -146,7 +146,7 @@ put_rising name (c ∷ done) column more h =
 
 -- the last of a row goes last
 put_last : (done : List Column) (column : Column) (more : List Column) → is_row (done ++ column ∷ more) ≡ true
-    → put column.name (data_of column.value) (members_of done) ≡ members_of (done ++ column ∷ [])
+    → put column.name (data_of column.value) (column_members done) ≡ column_members (done ++ column ∷ [])
 put_last [] column more h = refl
 put_last (c ∷ done) column more h =
     let rest = (both (not (is_id c.name)) (rises_from c.name (done ++ column ∷ more)) h).1 in
@@ -154,12 +154,12 @@ put_last (c ∷ done) column more h =
     rw above (ap (member c.name (data_of c.value)) (put_rising c.name done column more rest))
 
 pub column_more : (cs : List Column) (i : ℕ) (column : Column) → i < length cs → column ≡ get_or cs i column → is_row cs ≡ true
-    → put column.name (data_of column.value) (members_of (take i cs)) ≡ members_of (take (i + 1) cs)
+    → put column.name (data_of column.value) (column_members (take i cs)) ≡ column_members (take (i + 1) cs)
 column_more cs i column h is row =
     let left : drop i cs ≡ column ∷ drop (suc i) cs = drop-cons cs i column h ∙ ap (λ c. c ∷ drop (suc i) cs) (sym is) in
     let whole : take i cs ++ column ∷ drop (suc i) cs ≡ cs = ap (λ xs. take i cs ++ xs) (sym left) ∙ take-append-drop i cs in
     let next : take (suc i) cs ≡ take i cs ++ column ∷ [] = take-suc cs i column h ∙ ap (λ c. take i cs ++ c ∷ []) (sym is) in
-    rw add-one (put_last (take i cs) column (drop (suc i) cs) (ap is_row whole ∙ row) ∙ ap members_of (sym next))
+    rw add-one (put_last (take i cs) column (drop (suc i) cs) (ap is_row whole ∙ row) ∙ ap column_members (sym next))
 
 -- ---- changes
 
@@ -180,12 +180,12 @@ unfolding change_json
 change_made change d table id first second third same_id is_first is_second same_table is_third is =
     rw (is, is_third, is_second, is_first, same_id, same_table) (json_made change.table change.id change.row)
 
-json_spelled : (table id : List ℕ) (row : Option (List Column)) → table ≢ [] → IfSome row (λ columns. AreColumns (members_of columns) columns)
+json_spelled : (table id : List ℕ) (row : Option (List Column)) → table ≢ [] → IfSome row (λ columns. AreColumns (column_members columns) columns)
     → IsChange (json_with table id row) (record { table = table; id = id; row = row })
 json_spelled table id None filled h = record { table = refl; filled = filled; id = refl; row = refl }
-json_spelled table id (Some columns) filled h = record { table = refl; filled = filled; id = refl; row = (members_of columns, refl, refl, h) }
+json_spelled table id (Some columns) filled h = record { table = refl; filled = filled; id = refl; row = (column_members columns, refl, refl, h) }
 
-pub change_spelled : (change : Change) → change.table ≢ [] → IfSome change.row (λ columns. AreColumns (members_of columns) columns) → IsChange (change_json change) change
+pub change_spelled : (change : Change) → change.table ≢ [] → IfSome change.row (λ columns. AreColumns (column_members columns) columns) → IsChange (change_json change) change
 unfolding change_json
 change_spelled change filled h = json_spelled change.table change.id change.row filled h
 
@@ -194,7 +194,7 @@ pub transaction_made : (transaction : Transaction) (d list : Json) (changes : Li
 unfolding transaction_json
 transaction_made transaction d list changes first second same is_list is_first is_second is = rw (is, is_second, is_first, is_list, same) refl
 
-pub transaction_spelled : (transaction : Transaction) (changes : List Change) → IsWritable transaction → changes ≡ transaction.changes → AreChanges (items_of (map change_json changes)) changes
+pub transaction_spelled : (transaction : Transaction) (changes : List Change) → IsWritableTransaction transaction → changes ≡ transaction.changes → AreChanges (items_of (map change_json changes)) changes
     → IsTransaction (transaction_json transaction) transaction
 unfolding transaction_json
 transaction_spelled transaction changes h same each =
@@ -203,7 +203,7 @@ transaction_spelled transaction changes h same each =
 
 -- ---- bytes
 
-text_back : (Is : Json → Type 0) (d e : Json) (bytes : List ℕ) → d ≡ e → Is e → depth e ≤ max_depth → IsUtf8 bytes → (depth d ≤ max_depth → read bytes ≡ Some d) → length bytes ≤ longest → IsTextOf Is bytes
+text_back : (Is : Json → Type 0) (d e : Json) (bytes : List ℕ) → d ≡ e → Is e → depth e ≤ max_depth → IsUtf8 bytes → (depth d ≤ max_depth → read bytes ≡ Some d) → length bytes ≤ longest → IsJsonTextOf Is bytes
 text_back Is d e bytes same is shallow utf8 h fits = record {
   short = fits;
   json = e;
@@ -212,7 +212,7 @@ text_back Is d e bytes same is shallow utf8 h fits = record {
 }
 
 pub line_back : ReadsWhatIsWritten → (transaction : Transaction) (d : Json) (bytes : List ℕ) → d ≡ transaction_json transaction → IsTransaction (transaction_json transaction) transaction
-    → IsUtf8 bytes → (depth d ≤ max_depth → read bytes ≡ Some d) → length bytes ≤ longest → line_of bytes ≡ Ok transaction
+    → IsUtf8 bytes → (depth d ≤ max_depth → read bytes ≡ Some d) → length bytes ≤ longest → transaction_of_line bytes ≡ Ok transaction
 line_back law transaction d bytes same is utf8 h fits =
     line_only law bytes transaction (text_back (λ e. IsTransaction e transaction) d (transaction_json transaction) bytes same is (let k = transaction_shallow transaction in omega (arith, k)) utf8 h fits)
 

@@ -49,10 +49,10 @@ abbrev mutual
   members_in (json.member name j ms) found = members_in ms (put name (data_in j) found)
 
 -- the data of a borrowed value
-abbrev pub seen : Borrowed Global → Data
-seen borrowed = data_in (value_view borrowed)
+abbrev pub borrowed_data : Borrowed Global → Data
+borrowed_data borrowed = data_in (value_view borrowed)
 
 -- the members that borrowed names and values are
 abbrev pub entries_seen : List (Bor (List ℕ) × Bor (Borrowed Global)) → Members
 entries_seen [] = no_members
-entries_seen (e ∷ es) = member e.0.now (seen e.1.now) (entries_seen es)
+entries_seen (e ∷ es) = member e.0.now (borrowed_data e.1.now) (entries_seen es)

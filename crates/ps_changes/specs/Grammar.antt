@@ -51,7 +51,7 @@ pub record IsTransaction (d : Json) (transaction : Transaction) : Type 0 where
   pub changes : HasChanges d transaction.changes
 
 -- bytes that are the JSON of such, and no more than a line may have
-pub record IsTextOf (Is : Json → Type 0) (bytes : List ℕ) : Type 0 where
+pub record IsJsonTextOf (Is : Json → Type 0) (bytes : List ℕ) : Type 0 where
   pub short : length bytes ≤ longest
   pub json : Json
   pub read : json_of bytes ≡ Some json
@@ -59,12 +59,12 @@ pub record IsTextOf (Is : Json → Type 0) (bytes : List ℕ) : Type 0 where
 
 -- a change line
 abbrev pub IsLine : List ℕ → Transaction → Type 0
-IsLine bytes transaction = IsTextOf (λ d. IsTransaction d transaction) bytes
+IsLine bytes transaction = IsJsonTextOf (λ d. IsTransaction d transaction) bytes
 
 -- an upload's body
 abbrev pub IsBody : List ℕ → List Change → Type 0
-IsBody bytes changes = IsTextOf (λ d. HasChanges d changes) bytes
+IsBody bytes changes = IsJsonTextOf (λ d. HasChanges d changes) bytes
 
 -- a change by itself
 abbrev pub IsLoneChange : List ℕ → Change → Type 0
-IsLoneChange bytes change = IsTextOf (λ d. IsChange d change) bytes
+IsLoneChange bytes change = IsJsonTextOf (λ d. IsChange d change) bytes

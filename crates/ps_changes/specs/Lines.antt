@@ -6,7 +6,7 @@ use Rattle.serde_json.specs.Find.{get, as_str, as_array, as_object}
 use Rattle.ps_data.specs.declared.columns.Column.{Column}
 use Rattle.ps_data.specs.declared.ids.Position.{Position}
 use Rattle.ps_data.specs.declared.values.Value.{Value}
-use Rattle.ps_data.specs.Conversions.{value_of}
+use Rattle.ps_data.specs.Conversions.{json_value}
 use Rattle.ps_values.specs.ValueFaults.{first_fault, numbers_of}
 use Rattle.ps_data.specs.Numbers.{decimal_of}
 use Rattle.ps_data.specs.Documents.{json_of}
@@ -22,7 +22,7 @@ text_at name d = or_fault BadShape (option_and_then as_str (get name d))
 
 -- the value of a column, in which each number is whole and has signed 64 bits
 abbrev pub value_in : Json → Result Value ChangeFault
-value_in d = if is_none (first_fault (numbers_of d)) then Ok (value_of d) else Err BadValue
+value_in d = if is_none (first_fault (numbers_of d)) then Ok (json_value d) else Err BadValue
 
 -- the column that a member is: none where it is named `id`, whatever it is
 abbrev pub column_of : List ℕ → Json → Result (List Column) ChangeFault
@@ -46,8 +46,8 @@ row_in d = do
   Ok (Some columns)
 
 -- the row of a change: a PUT has one, a DELETE has none
-abbrev pub row_of : List ℕ → Json → Result (Option (List Column)) ChangeFault
-row_of op d = if bytes_eq op (codes "PUT") then row_in d
+abbrev pub change_row : List ℕ → Json → Result (Option (List Column)) ChangeFault
+change_row op d = if bytes_eq op (codes "PUT") then row_in d
     else if bytes_eq op (codes "DELETE") then Ok None
     else Err BadShape
 
@@ -58,7 +58,7 @@ filled text = if nat_lt 0 (length text) then Ok text else Err BadShape
 abbrev pub row_by_op : Json → Result (Option (List Column)) ChangeFault
 row_by_op d = do
   op ← text_at (codes "op") d
-  row_of op d
+  change_row op d
 
 -- ---- changes and transactions
 
@@ -68,20 +68,20 @@ change_of d = do
   table ← filled text
   id ← text_at (codes "id") d
   op ← text_at (codes "op") d
-  row ← row_of op d
+  row ← change_row op d
   Ok (record { table = table; id = id; row = row })
 
-abbrev pub changes_of : Items → Result (List Change) ChangeFault
-changes_of no_items = Ok []
-changes_of (item d ds) = do
+abbrev pub changes_in_items : Items → Result (List Change) ChangeFault
+changes_in_items no_items = Ok []
+changes_in_items (item d ds) = do
   change ← change_of d
-  changes ← changes_of ds
+  changes ← changes_in_items ds
   Ok (change ∷ changes)
 
 abbrev pub changes_in : Json → Result (List Change) ChangeFault
 changes_in d = do
   ds ← or_fault BadShape (option_and_then as_array (get (codes "changes") d))
-  changes_of ds
+  changes_in_items ds
 
 -- a position is the decimal text of a number from 1
 abbrev pub position_of : List ℕ → Result Position ChangeFault
@@ -131,8 +131,8 @@ json_such is_such bytes = do
   shaped is_such json
 
 -- the transaction of a line; its position is judged before its values
-unfoldable pub line_of : List ℕ → Result Transaction ChangeFault
-line_of bytes = do
+unfoldable pub transaction_of_line : List ℕ → Result Transaction ChangeFault
+transaction_of_line bytes = do
   json ← json_such is_transaction bytes
   transaction_of json
 

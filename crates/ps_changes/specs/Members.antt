@@ -24,14 +24,14 @@ Reads (Err BadValue) meant = meant ≡ Err BadValue
 Reads (Err Memory) meant = Unit {0}
 
 -- what was meant was added at the end, or the fault is what is meant
-abbrev pub Adds : {X : Type 0} → List X → List X → Result (Unit {0}) ChangeFault → Result (List X) ChangeFault → Type 0
-Adds {X} old new (Ok _) meant = (added : List X) × (meant ≡ Ok added) × (new ≡ old ++ added)
-Adds old new (Err (LineTooLong seen)) meant = meant ≡ Err (LineTooLong seen)
-Adds old new (Err BadJson) meant = meant ≡ Err BadJson
-Adds old new (Err BadShape) meant = meant ≡ Err BadShape
-Adds old new (Err BadPosition) meant = meant ≡ Err BadPosition
-Adds old new (Err BadValue) meant = meant ≡ Err BadValue
-Adds old new (Err Memory) meant = Unit {0}
+abbrev pub AddsMeant : {X : Type 0} → List X → List X → Result (Unit {0}) ChangeFault → Result (List X) ChangeFault → Type 0
+AddsMeant {X} old new (Ok _) meant = (added : List X) × (meant ≡ Ok added) × (new ≡ old ++ added)
+AddsMeant old new (Err (LineTooLong seen)) meant = meant ≡ Err (LineTooLong seen)
+AddsMeant old new (Err BadJson) meant = meant ≡ Err BadJson
+AddsMeant old new (Err BadShape) meant = meant ≡ Err BadShape
+AddsMeant old new (Err BadPosition) meant = meant ≡ Err BadPosition
+AddsMeant old new (Err BadValue) meant = meant ≡ Err BadValue
+AddsMeant old new (Err Memory) meant = Unit {0}
 
 -- an answer by what is seen of it
 abbrev pub seen_by : {X Y : Type 0} → (X → Y) → Result X ChangeFault → Result Y ChangeFault

@@ -10,20 +10,20 @@ use Rattle.ps_data.specs.Numbers.{greatest}
 use Rattle.ps_changes.specs.Types.{Change, Transaction}
 
 -- a row's columns, in their order
-abbrev pub members_of : List Column → Members
-members_of [] = no_members
-members_of (column ∷ columns) = member column.name (data_of column.value) (members_of columns)
+abbrev pub column_members : List Column → Members
+column_members [] = no_members
+column_members (column ∷ columns) = member column.name (data_of column.value) (column_members columns)
 
 -- members with the operation of a change, and with the row that a PUT has
 abbrev pub with_row : Option (List Column) → Members → Members
-with_row (Some columns) ms = put (codes "row") (object (members_of columns)) (put (codes "op") (string (codes "PUT")) ms)
+with_row (Some columns) ms = put (codes "row") (object (column_members columns)) (put (codes "op") (string (codes "PUT")) ms)
 with_row None ms = put (codes "op") (string (codes "DELETE")) ms
 
 abbrev pub put_json : List ℕ → List ℕ → List Column → Json
 put_json table id columns = object (
     member (codes "id") (string id)
     (member (codes "op") (string (codes "PUT"))
-    (member (codes "row") (object (members_of columns))
+    (member (codes "row") (object (column_members columns))
     (member (codes "table") (string table) no_members))))
 
 abbrev pub delete_json : List ℕ → List ℕ → Json
@@ -51,7 +51,7 @@ unfoldable pub line_text : Transaction → List ℕ
 line_text transaction = compact_text (transaction_json transaction)
 
 -- what may be written: a position that a line may have, and no empty table
-pub record IsWritable (transaction : Transaction) : Type 0 where
+pub record IsWritableTransaction (transaction : Transaction) : Type 0 where
   pub above : 0 < transaction.position.0
   pub within : transaction.position.0 ≤ greatest
   pub filled : All (λ change. change.table ≢ []) transaction.changes

@@ -10,7 +10,7 @@ ghost use Rattle.serde_json.specs.View.{view, number_view, items_view as tree_it
 ghost use Rattle.ps_data.specs.Documents.{json_of};
 ghost use Rattle.ps_changes.specs.Types.{BadJson};
 ghost use Rattle.ps_changes.specs.Members.{Reads, or_fault, seen_by};
-ghost use Rattle.ps_changes.specs.Borrowed.{number_in as number_data, fits as fits_data, items_fit as items_fit_data, members_fit as members_fit_data, items_in, members_in, seen, entries_seen};
+ghost use Rattle.ps_changes.specs.Borrowed.{number_in as number_data, fits as fits_data, items_fit as items_fit_data, members_fit as members_fit_data, items_in, members_in, borrowed_data, entries_seen};
 
 use crate::ChangeFault;
 use fast_float::Numeral;
@@ -30,7 +30,7 @@ pub fn read_borrowed<'a>(
     bytes: &'a [u8],
     room: &'a mut Scratch,
 ) -> Result<Borrowed<'a>, ChangeFault>
-    ensures exact { Reads (seen_by seen result) (or_fault BadJson (json_of bytes.now)) }
+    ensures exact { Reads (seen_by borrowed_data result) (or_fault BadJson (json_of bytes.now)) }
     ensures no_text { ¬ (IsUtf8 bytes.now) → result ≡ Err BadJson }
 {
     let Ok(text) = str::from_utf8(bytes) else {
@@ -147,14 +147,14 @@ pub fn number_in(text: &str) -> Number
 /// The value of the member of that name; None in what is no object too.
 #[tactic(auto, using(crate::proofs::Borrowing::member_seen))]
 pub fn member<'v, 'a>(json: &'v Borrowed<'a>, name: &str) -> Option<&'v Borrowed<'a>>
-    ensures { option_map (λ member. seen member.now) result ≡ get name.now (seen json.now) }
+    ensures { option_map (λ member. borrowed_data member.now) result ≡ get name.now (borrowed_data json.now) }
 {
     json.get(name)
 }
 
 /// The text that a JSON value is; None where it is no string.
 pub fn as_text<'a>(json: &Borrowed<'a>) -> Option<&'a str>
-    ensures { option_map (λ text. text.now) result ≡ as_str (seen json.now) }
+    ensures { option_map (λ text. text.now) result ≡ as_str (borrowed_data json.now) }
 {
     if let Borrowed::String(text) = json {
         Some(*text)
@@ -164,7 +164,7 @@ pub fn as_text<'a>(json: &Borrowed<'a>) -> Option<&'a str>
 }
 
 pub fn as_list<'v, 'a>(json: &'v Borrowed<'a>) -> Option<&'v Vec<Borrowed<'a>>>
-    ensures { option_map (λ list. items_in (items_view list.now.items)) result ≡ as_array (seen json.now) }
+    ensures { option_map (λ list. items_in (items_view list.now.items)) result ≡ as_array (borrowed_data json.now) }
 {
     if let Borrowed::Array(list) = json {
         Some(list)
@@ -174,7 +174,7 @@ pub fn as_list<'v, 'a>(json: &'v Borrowed<'a>) -> Option<&'v Vec<Borrowed<'a>>>
 }
 
 pub fn as_members<'v, 'a>(json: &'v Borrowed<'a>) -> Option<&'v Vec<(&'a str, Borrowed<'a>)>>
-    ensures { option_map (λ members. members_in (members_view members.now.items) no_members) result ≡ as_object (seen json.now) }
+    ensures { option_map (λ members. members_in (members_view members.now.items) no_members) result ≡ as_object (borrowed_data json.now) }
 {
     if let Borrowed::Object(members) = json {
         Some(members)
@@ -200,7 +200,7 @@ pub fn in_order<'v, 'a>(
 // The same JSON, which owns its texts.
 #[cycle(owned)]
 pub fn owned(alloc: Global, json: &Borrowed<'_>) -> Result<Json, Memory>
-    ensures { IfOk result (λ made. view made ≡ seen json.now) }
+    ensures { IfOk result (λ made. view made ≡ borrowed_data json.now) }
 {
     match json {
         Borrowed::Null => Ok(Json::Null),

@@ -2,13 +2,11 @@
 
 ghost use Rattle.ps_changes.specs.Laws.{ReadsLines, ReadsLoneChanges};
 
-use ps_values::decimals_read_back;
-
 /// A law: the transaction that the bytes of a line are, as a function, is the one that the grammar spells.
 pub fn lines_are_spelled()
     ensures { ReadsLines }
 {
-    decimals_read_back();
+    ps_values::laws::decimals_read_back();
 }
 
 /// A law: the change that a text is, as a function, is the one that the grammar spells.

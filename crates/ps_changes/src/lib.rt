@@ -3,7 +3,7 @@
 
 mod borrowed;
 mod faults;
-mod laws;
+pub mod laws;
 mod lines;
 mod long_lines;
 mod readers;
@@ -12,7 +12,6 @@ mod writers;
 
 pub use borrowed::{as_text, member, read_borrowed};
 pub use faults::ChangeFault;
-pub use laws::{lines_are_spelled, lone_changes_are_spelled};
 pub use lines::{LineReader, read_change, read_changes, read_line};
 pub use long_lines::{read_long_change, read_long_line, transaction_in};
 pub use ps_data::Column;

@@ -1,8 +1,8 @@
 ghost use Rattle.std.specs.Prelude.{List, IfOk, Ok};
 ghost use Rattle.ps_changes.specs.Types.{Transaction as TransactionData, Change as ChangeData};
 ghost use Rattle.ps_changes.specs.Members.{Reads, seen_by};
-ghost use Rattle.ps_changes.specs.Borrowed.{seen};
-ghost use Rattle.ps_changes.specs.Lines.{RefusesLong, RefusesNoText, json_within, line_of, body_of, lone_change_of};
+ghost use Rattle.ps_changes.specs.Borrowed.{borrowed_data};
+ghost use Rattle.ps_changes.specs.Lines.{RefusesLong, RefusesNoText, json_within, transaction_of_line, body_of, lone_change_of};
 ghost use Rattle.ps_changes.specs.Grammar.{IsLine, IsBody, IsLoneChange};
 
 use crate::ChangeFault;
@@ -12,7 +12,6 @@ use crate::shapes::{has_changes, is_change, is_transaction};
 use json::{Scratch, Value as Borrowed};
 use ps_data::Items;
 use ps_rows::{Change, Transaction};
-use ps_values::decimals_read_back;
 use std::alloc::Global;
 
 // The greatest number of bytes of a line.
@@ -40,13 +39,13 @@ impl LineReader {
         // What is spelled so is read, unless memory runs out.
         ensures only { (meant : TransactionData) → IsLine bytes.now meant → Reads result (Ok meant) }
         // Which fault is the first.
-        ensures exact { Reads result (line_of bytes.now) }
+        ensures exact { Reads result (transaction_of_line bytes.now) }
         // A line that is too long is refused before any memory is asked for.
         ensures long { RefusesLong bytes.now result }
         // So is what is no text.
         ensures no_text { RefusesNoText bytes.now result }
     {
-        decimals_read_back();
+        ps_values::laws::decimals_read_back();
         line(alloc, bytes, &mut self.room)
     }
 }
@@ -61,7 +60,7 @@ pub fn read_line(alloc: Global, bytes: &[u8]) -> Result<Transaction, ChangeFault
     // What is spelled so is read, unless memory runs out.
     ensures only { (meant : TransactionData) → IsLine bytes.now meant → Reads result (Ok meant) }
     // Which fault is the first.
-    ensures exact { Reads result (line_of bytes.now) }
+    ensures exact { Reads result (transaction_of_line bytes.now) }
     // A line that is too long is refused before any memory is asked for.
     ensures long { RefusesLong bytes.now result }
     // So is what is no text.
@@ -112,7 +111,7 @@ fn json_of_line<'a>(
     bytes: &'a [u8],
     room: &'a mut Scratch,
 ) -> Result<Borrowed<'a>, ChangeFault>
-    ensures exact { Reads (seen_by seen result) (json_within bytes.now) }
+    ensures exact { Reads (seen_by borrowed_data result) (json_within bytes.now) }
     ensures long { RefusesLong bytes.now result }
     ensures no_text { RefusesNoText bytes.now result }
 {
@@ -125,7 +124,7 @@ fn json_of_line<'a>(
 
 #[tactic(auto, unfolding(crate::specs::Lines::line_of))]
 fn line(alloc: Global, bytes: &[u8], room: &mut Scratch) -> Result<Transaction, ChangeFault>
-    ensures exact { Reads result (line_of bytes.now) }
+    ensures exact { Reads result (transaction_of_line bytes.now) }
     ensures long { RefusesLong bytes.now result }
     ensures no_text { RefusesNoText bytes.now result }
 {

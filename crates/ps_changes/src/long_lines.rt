@@ -3,9 +3,9 @@
 ghost use Rattle.std.specs.Prelude.{IfOk, Ok};
 ghost use Rattle.ps_changes.specs.Types.{Transaction as TransactionData, Change as ChangeData};
 ghost use Rattle.ps_changes.specs.Members.{Reads};
-ghost use Rattle.ps_changes.specs.Borrowed.{seen};
+ghost use Rattle.ps_changes.specs.Borrowed.{borrowed_data};
 ghost use Rattle.ps_changes.specs.LongLines.{transaction_in as transaction_in_json, change_in as change_in_json, long_line_of, long_change_of, IsLongLine, IsLongChange};
-ghost use Rattle.ps_changes.specs.Writing.{IsWritable};
+ghost use Rattle.ps_changes.specs.Writing.{IsWritableTransaction};
 
 use crate::ChangeFault;
 use crate::borrowed::read_borrowed;
@@ -13,7 +13,6 @@ use crate::readers::{read_object, read_transaction};
 use crate::shapes::{is_change, is_transaction};
 use json::{Scratch, Value as Borrowed};
 use ps_rows::{Change, Transaction};
-use ps_values::decimals_read_back;
 use std::alloc::Global;
 
 /// Reads a change line of any length, as `read_line` reads one that is no longer than a line may be: docs/FORMATS.md, "Change lines".
@@ -27,7 +26,7 @@ pub fn read_long_line(alloc: Global, bytes: &[u8]) -> Result<Transaction, Change
     // Which fault is the first.
     ensures exact { Reads result (long_line_of bytes.now) }
 {
-    decimals_read_back();
+    ps_values::laws::decimals_read_back();
     line(alloc, bytes)
 }
 
@@ -48,17 +47,17 @@ pub fn read_long_change(alloc: Global, bytes: &[u8]) -> Result<Change, ChangeFau
 /// The transaction that a JSON value is, as that of a change line. Fails by the first that applies: `BadShape`, `BadPosition`, `BadValue`.
 #[tactic(auto, using(crate::proofs::LongLines::read_is_writable))]
 pub fn transaction_in(alloc: Global, json: &Borrowed<'_>) -> Result<Transaction, ChangeFault>
-    ensures exact { Reads result (transaction_in_json (seen json.now)) }
+    ensures exact { Reads result (transaction_in_json (borrowed_data json.now)) }
     // It can be written again.
-    ensures writable { IfOk result IsWritable }
+    ensures writable { IfOk result IsWritableTransaction }
 {
-    decimals_read_back();
+    ps_values::laws::decimals_read_back();
     transaction(alloc, json)
 }
 
 #[tactic(auto, unfolding(crate::specs::LongLines::transaction_in))]
 fn transaction(alloc: Global, json: &Borrowed<'_>) -> Result<Transaction, ChangeFault>
-    ensures { Reads result (transaction_in_json (seen json.now)) }
+    ensures { Reads result (transaction_in_json (borrowed_data json.now)) }
 {
     if is_transaction(json) {
         read_transaction(alloc, json)
@@ -69,7 +68,7 @@ fn transaction(alloc: Global, json: &Borrowed<'_>) -> Result<Transaction, Change
 
 #[tactic(auto, unfolding(crate::specs::LongLines::change_in))]
 fn change_in(alloc: Global, json: &Borrowed<'_>) -> Result<Change, ChangeFault>
-    ensures { Reads result (change_in_json (seen json.now)) }
+    ensures { Reads result (change_in_json (borrowed_data json.now)) }
 {
     if is_change(json) {
         read_object(alloc, json)

@@ -2,9 +2,9 @@
 
 ghost use Rattle.json.specs.Value.{items_view, members_view};
 ghost use Rattle.serde_json.specs.Data.{number, no_members};
-ghost use Rattle.ps_changes.specs.Members.{Reads, Adds};
-ghost use Rattle.ps_changes.specs.Borrowed.{number_in as number_data, seen, items_in, members_in, entries_seen};
-ghost use Rattle.ps_changes.specs.Lines.{text_at, value_in, column_of, columns_of, row_in, row_of, row_by_op, change_of, changes_of, changes_in, position_of, transaction_of};
+ghost use Rattle.ps_changes.specs.Members.{Reads, AddsMeant};
+ghost use Rattle.ps_changes.specs.Borrowed.{number_in as number_data, borrowed_data, items_in, members_in, entries_seen};
+ghost use Rattle.ps_changes.specs.Lines.{text_at, value_in, column_of, columns_of, row_in, change_row, row_by_op, change_of, changes_in_items, changes_in, position_of, transaction_of};
 
 use crate::ChangeFault;
 use crate::borrowed::{as_list, as_members, as_text, in_order, member, number_in, owned};
@@ -16,7 +16,7 @@ use std::alloc::Global;
 use std::collections::BTreeMap;
 
 pub fn read_transaction(alloc: Global, json: &Borrowed<'_>) -> Result<Transaction, ChangeFault>
-    ensures { Reads result (transaction_of (seen json.now)) }
+    ensures { Reads result (transaction_of (borrowed_data json.now)) }
 {
     let text = read_text(alloc, json, "pos")?;
     let position = read_position(&text)?;
@@ -34,7 +34,7 @@ fn read_position(text: &Text) -> Result<Position, ChangeFault>
 }
 
 pub fn read_list(alloc: Global, json: &Borrowed<'_>) -> Result<Items<Change>, ChangeFault>
-    ensures { Reads result (changes_in (seen json.now)) }
+    ensures { Reads result (changes_in (borrowed_data json.now)) }
 {
     match member(json, "changes").and_then(as_list) {
         Some(list) => read_items(alloc, list.as_slice()),
@@ -43,7 +43,7 @@ pub fn read_list(alloc: Global, json: &Borrowed<'_>) -> Result<Items<Change>, Ch
 }
 
 fn read_items(alloc: Global, list: &[Borrowed<'_>]) -> Result<Items<Change>, ChangeFault>
-    ensures { Reads result (changes_of (items_in (items_view list.now))) }
+    ensures { Reads result (changes_in_items (items_in (items_view list.now))) }
 {
     let mut changes = Vec::with_capacity(alloc, list.len())?;
     'changes: for json in list {
@@ -53,7 +53,7 @@ fn read_items(alloc: Global, list: &[Borrowed<'_>]) -> Result<Items<Change>, Cha
 }
 
 pub fn read_object(alloc: Global, json: &Borrowed<'_>) -> Result<Change, ChangeFault>
-    ensures { Reads result (change_of (seen json.now)) }
+    ensures { Reads result (change_of (borrowed_data json.now)) }
 {
     let table = read_text(alloc, json, "table")?;
     if table.bytes().is_empty() {
@@ -66,7 +66,7 @@ pub fn read_object(alloc: Global, json: &Borrowed<'_>) -> Result<Change, ChangeF
 
 // The row of a change, by its operation.
 fn read_row(alloc: Global, json: &Borrowed<'_>) -> Result<Option<Row>, ChangeFault>
-    ensures { Reads result (row_by_op (seen json.now)) }
+    ensures { Reads result (row_by_op (borrowed_data json.now)) }
 {
     match member(json, "op").and_then(as_text) {
         Some(op) => read_row_of(alloc, op, json),
@@ -76,7 +76,7 @@ fn read_row(alloc: Global, json: &Borrowed<'_>) -> Result<Option<Row>, ChangeFau
 
 // A PUT has a row, a DELETE has none.
 fn read_row_of(alloc: Global, op: &str, json: &Borrowed<'_>) -> Result<Option<Row>, ChangeFault>
-    ensures { Reads result (row_of op.now (seen json.now)) }
+    ensures { Reads result (change_row op.now (borrowed_data json.now)) }
 {
     if op == "PUT" {
         return read_row_in(alloc, json);
@@ -88,7 +88,7 @@ fn read_row_of(alloc: Global, op: &str, json: &Borrowed<'_>) -> Result<Option<Ro
 }
 
 fn read_row_in(alloc: Global, json: &Borrowed<'_>) -> Result<Option<Row>, ChangeFault>
-    ensures { Reads result (row_in (seen json.now)) }
+    ensures { Reads result (row_in (borrowed_data json.now)) }
 {
     match member(json, "row").and_then(as_members) {
         Some(members) => Ok(Some(read_columns(alloc, members)?)),
@@ -97,7 +97,7 @@ fn read_row_in(alloc: Global, json: &Borrowed<'_>) -> Result<Option<Row>, Change
 }
 
 fn read_text(alloc: Global, json: &Borrowed<'_>, name: &str) -> Result<Text, ChangeFault>
-    ensures { Reads result (text_at name.now (seen json.now)) }
+    ensures { Reads result (text_at name.now (borrowed_data json.now)) }
 {
     match member(json, name).and_then(as_text) {
         Some(text) => Ok(Text::from_str(alloc, text)?),
@@ -136,7 +136,7 @@ fn push_column(
     name: &str,
     json: &Borrowed<'_>,
 ) -> Result<(), ChangeFault>
-    ensures { Adds columns.old.items columns.new.items result (column_of name.now (seen json.now)) }
+    ensures { AddsMeant columns.old.items columns.new.items result (column_of name.now (borrowed_data json.now)) }
 {
     if name == "id" {
         return Ok(());
@@ -148,7 +148,7 @@ fn push_column(
 }
 
 fn read_value(alloc: Global, json: &Borrowed<'_>) -> Result<Value, ChangeFault>
-    ensures { Reads result (value_in (seen json.now)) }
+    ensures { Reads result (value_in (borrowed_data json.now)) }
 {
     match json {
         Borrowed::Null => Ok(Value::Null),
@@ -170,7 +170,7 @@ fn read_number(text: &str) -> Result<Value, ChangeFault>
 
 // An array or an object, which is the text of its compact JSON.
 fn read_nested(alloc: Global, json: &Borrowed<'_>) -> Result<Value, ChangeFault>
-    ensures { Reads result (value_in (seen json.now)) }
+    ensures { Reads result (value_in (borrowed_data json.now)) }
 {
     let json = owned(alloc, json)?;
     match value_of_json(alloc, &json) {

@@ -2,26 +2,26 @@
 
 ghost use Rattle.std.specs.Prelude.{◌≡◌, Some};
 ghost use Rattle.json.specs.Value.{items_view};
-ghost use Rattle.ps_changes.specs.Borrowed.{seen, items_in};
+ghost use Rattle.ps_changes.specs.Borrowed.{borrowed_data, items_in};
 ghost use Rattle.ps_changes.specs.Shapes.{has_text as text_is_there, has_object as object_is_there, has_filled_text as filled_text_is_there, is_op as is_op_shape, is_change as is_change_shape, are_changes as are_changes_shape, has_changes as changes_are_there, is_transaction as is_transaction_shape};
 
 use crate::borrowed::{as_list, as_members, as_text, member};
 use json::Value as Borrowed;
 
 fn has_text(json: &Borrowed<'_>, name: &str) -> bool
-    ensures { result ≡ text_is_there name.now (seen json.now) }
+    ensures { result ≡ text_is_there name.now (borrowed_data json.now) }
 {
     member(json, name).and_then(as_text).is_some()
 }
 
 fn has_object(json: &Borrowed<'_>, name: &str) -> bool
-    ensures { result ≡ object_is_there name.now (seen json.now) }
+    ensures { result ≡ object_is_there name.now (borrowed_data json.now) }
 {
     member(json, name).and_then(as_members).is_some()
 }
 
 fn has_filled_text(json: &Borrowed<'_>, name: &str) -> bool
-    ensures { result ≡ filled_text_is_there name.now (seen json.now) }
+    ensures { result ≡ filled_text_is_there name.now (borrowed_data json.now) }
 {
     match member(json, name).and_then(as_text) {
         Some(text) => !text.is_empty(),
@@ -31,7 +31,7 @@ fn has_filled_text(json: &Borrowed<'_>, name: &str) -> bool
 
 // Whether a change has what its operation needs besides.
 fn is_op(op: &str, json: &Borrowed<'_>) -> bool
-    ensures { result ≡ is_op_shape (Some op.now) (seen json.now) }
+    ensures { result ≡ is_op_shape (Some op.now) (borrowed_data json.now) }
 {
     if op == "PUT" {
         return has_object(json, "row");
@@ -40,7 +40,7 @@ fn is_op(op: &str, json: &Borrowed<'_>) -> bool
 }
 
 pub fn is_change(json: &Borrowed<'_>) -> bool
-    ensures { result ≡ is_change_shape (seen json.now) }
+    ensures { result ≡ is_change_shape (borrowed_data json.now) }
 {
     let named = has_filled_text(json, "table") && has_text(json, "id");
     if !named {
@@ -64,7 +64,7 @@ fn are_changes(list: &[Borrowed<'_>]) -> bool
 }
 
 pub fn has_changes(json: &Borrowed<'_>) -> bool
-    ensures { result ≡ changes_are_there (seen json.now) }
+    ensures { result ≡ changes_are_there (borrowed_data json.now) }
 {
     match member(json, "changes").and_then(as_list) {
         Some(list) => are_changes(list.as_slice()),
@@ -73,7 +73,7 @@ pub fn has_changes(json: &Borrowed<'_>) -> bool
 }
 
 pub fn is_transaction(json: &Borrowed<'_>) -> bool
-    ensures { result ≡ is_transaction_shape (seen json.now) }
+    ensures { result ≡ is_transaction_shape (borrowed_data json.now) }
 {
     has_text(json, "pos") && has_changes(json)
 }

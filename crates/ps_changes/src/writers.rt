@@ -4,14 +4,14 @@ ghost use Rattle.serde_json.specs.View.{view, members_view, items_of};
 ghost use Rattle.serde_json.specs.Written.{has_float};
 ghost use Rattle.ps_data.specs.Documents.{data_of};
 ghost use Rattle.ps_values.specs.ValueFaults.{IsValueOf};
-ghost use Rattle.ps_changes.specs.Lines.{longest, line_of, lone_change_of};
+ghost use Rattle.ps_changes.specs.Lines.{longest, transaction_of_line, lone_change_of};
 ghost use Rattle.ps_changes.specs.Grammar.{AreColumns, IsChange, AreChanges, IsTransaction};
 ghost use Rattle.ps_changes.specs.LongLines.{transaction_in};
-ghost use Rattle.ps_changes.specs.Writing.{members_of, with_row, change_json as json_of_change, transaction_json as json_of_transaction, change_text, line_text, IsWritable};
+ghost use Rattle.ps_changes.specs.Writing.{column_members, with_row, change_json as json_of_change, transaction_json as json_of_transaction, change_text, line_text, IsWritableTransaction};
 
 use ps_data::{Items, Memory, Position, Value};
 use ps_rows::{Change, Row, Transaction};
-use ps_values::{decimals_read_back, json_of_value};
+use ps_values::json_of_value;
 use serde_json::{Map, Value as Json, put};
 use std::alloc::Global;
 
@@ -19,11 +19,11 @@ use std::alloc::Global;
 /// No table is empty, and the position is one that a line may have, from 1 to 9223372036854775807. `read_line` gives
 /// the transaction again, where they are no more than a line may have.
 pub fn write_line(alloc: Global, transaction: &Transaction) -> Result<Vec<u8>, Memory>
-    requires { IsWritable transaction.now }
+    requires { IsWritableTransaction transaction.now }
     ensures value { IfOk result (λ bytes. bytes.items ≡ line_text transaction.now) }
-    ensures read_again { IfOk result (λ bytes. length bytes.items ≤ longest → line_of bytes.items ≡ Ok transaction.now) }
+    ensures read_again { IfOk result (λ bytes. length bytes.items ≤ longest → transaction_of_line bytes.items ≡ Ok transaction.now) }
 {
-    decimals_read_back();
+    ps_values::laws::decimals_read_back();
     let json = transaction_json(alloc, transaction.position, &transaction.changes)?;
     Ok(json.to_vec(alloc)?)
 }
@@ -47,13 +47,13 @@ pub fn json_of_changes(
     position: Position,
     changes: &Items<Change>,
 ) -> Result<Json, Memory>
-    requires { IsWritable (record { position = position; changes = changes.now }) }
+    requires { IsWritableTransaction (record { position = position; changes = changes.now }) }
     ensures value { IfOk result (λ json. view json ≡ json_of_transaction (record { position = position; changes = changes.now })) }
     ensures read_again { IfOk result (λ json. transaction_in (view json) ≡ Ok (record { position = position; changes = changes.now })) }
     ensures plain { IfOk result (λ json. has_float (view json) ≡ false) }
     ensures shallow { IfOk result (λ json. depth (view json) ≤ 4) }
 {
-    decimals_read_back();
+    ps_values::laws::decimals_read_back();
     let json = transaction_json(alloc, position, changes)?;
     Ok(json)
 }
@@ -63,7 +63,7 @@ fn transaction_json(
     position: Position,
     changes: &Items<Change>,
 ) -> Result<Json, Memory>
-    requires { IsWritable (record { position = position; changes = changes.now }) }
+    requires { IsWritableTransaction (record { position = position; changes = changes.now }) }
     ensures value { IfOk result (λ json. view json ≡ json_of_transaction (record { position = position; changes = changes.now })) }
     ensures spelled { IfOk result (λ _. IsTransaction (json_of_transaction (record { position = position; changes = changes.now })) (record { position = position; changes = changes.now })) }
 {
@@ -129,7 +129,7 @@ pub fn put_decimal(
 // Puts the operation of a change, and the row that a PUT has.
 fn put_row(members: &mut Map<String, Json>, alloc: Global, row: &Option<Row>) -> Result<(), Memory>
     ensures value { OnOk result (members_view members.new.entries ≡ with_row row.now (members_view members.old.entries)) }
-    ensures spelled { OnOk result (IfSome row.now (λ columns. AreColumns (members_of columns) columns)) }
+    ensures spelled { OnOk result (IfSome row.now (λ columns. AreColumns (column_members columns) columns)) }
 {
     match row {
         Some(row) => {
@@ -142,8 +142,8 @@ fn put_row(members: &mut Map<String, Json>, alloc: Global, row: &Option<Row>) ->
 }
 
 fn row_json(alloc: Global, row: &Row) -> Result<Json, Memory>
-    ensures value { IfOk result (λ json. view json ≡ object (members_of row.now)) }
-    ensures spelled { IfOk result (λ _. AreColumns (members_of row.now) row.now) }
+    ensures value { IfOk result (λ json. view json ≡ object (column_members row.now)) }
+    ensures spelled { IfOk result (λ _. AreColumns (column_members row.now) row.now) }
 {
     let mut members = Map::new(alloc);
     'columns: for column in row.columns() {

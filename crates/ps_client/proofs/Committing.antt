@@ -12,10 +12,10 @@ use Rattle.ps_client.specs.declared.events.Event.{Event}
 use Rattle.ps_client.specs.declared.faults.ClientFault.{ClientFault}
 use Rattle.ps_client.specs.declared.faults.ClientFault.TheVariants.{OutOfOrder, BadLine, KeeperFault, QueueEmpty, QueueWaiting, Memory}
 use Rattle.ps_client.specs.Clients.{PlainClient, Took}
-use Rattle.ps_client.specs.Commits.{KeepsUntold, FailsOnlyWhere, SaysEvent, Says}
+use Rattle.ps_client.specs.Commits.{KeepsUntold, FailsOnlyWhere, SaysEvent, SaysAsPlain}
 use Rattle.ps_client.specs.Keepers.{RoseWhereFaulted}
 use Rattle.ps_client.specs.Tables.{Entries, is_one_of, is_told}
-use Rattle.ps_client.specs.Taking.{Answers}
+use Rattle.ps_client.specs.Taking.{AnswersLine}
 
 -- ---- where a keeper fails
 
@@ -62,7 +62,7 @@ no_event : (a : Event) (fault : ClientFault) (r : Result Event ClientFault) → 
 no_event a fault r one other = cc
 
 says_so : (event : Event) (own : Result Event ClientFault) (took : Took) (old new : PlainClient) (before now : ℕ) → took.answer ≡ Ok event
-    → Answers took old new own → RoseWhereFaulted own before now → SaysEvent event own before now
+    → AnswersLine took old new own → RoseWhereFaulted own before now → SaysEvent event own before now
 says_so event (Ok said) took old new before now is answers rose = same_event said event took.answer answers.answer is
 says_so event (Err OutOfOrder) took old new before now is answers rose = no_event event OutOfOrder took.answer is answers
 says_so event (Err (BadLine fault)) took old new before now is answers rose = no_event event (BadLine fault) took.answer is answers
@@ -71,10 +71,10 @@ says_so event (Err QueueEmpty) took old new before now is answers rose = absurd 
 says_so event (Err (QueueWaiting length)) took old new before now is answers rose = absurd answers
 says_so event (Err Memory) took old new before now is answers rose = tt
 
-pub says : (took : Took) (old new : PlainClient) (own : Result Event ClientFault) (before now : ℕ) → Answers took old new own → RoseWhereFaulted own before now
-    → Says took.answer own before now
+pub says : (took : Took) (old new : PlainClient) (own : Result Event ClientFault) (before now : ℕ) → AnswersLine took old new own → RoseWhereFaulted own before now
+    → SaysAsPlain took.answer own before now
 says took old new own before now answers rose = by took.answer refl
   where
-    by : (meant : Result Event ClientFault) → took.answer ≡ meant → Says meant own before now
+    by : (meant : Result Event ClientFault) → took.answer ≡ meant → SaysAsPlain meant own before now
     by (Ok event) is = says_so event own took old new before now is answers rose
     by (Err fault) is = tt

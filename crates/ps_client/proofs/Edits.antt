@@ -10,7 +10,7 @@ use Rattle.ps_client_log.specs.declared.edits.Edit.TheVariants.{Delete}
 use Rattle.ps_client_log.specs.Kept.{Kept}
 use Rattle.ps_client_log.specs.Soundness.{IsSound}
 use Rattle.ps_client_log.specs.Edits.{CanMakeAll, with_edit, with_edits}
-use Rattle.ps_client_log.specs.Keeping.{Tells}
+use Rattle.ps_client_log.specs.Keeping.{TellsKept}
 use Rattle.ps_client_log.specs.Laws.{EditKeepsSound}
 use Rattle.ps_client.specs.Clients.{only_told, without_buckets}
 use Rattle.ps_client.specs.Keepers.{Follows}
@@ -19,13 +19,13 @@ use Rattle.ps_client.proofs.ToldEntries.{same_name}
 
 -- ---- a keeper follows
 
-pub follows_edits : (before now : Option Kept) (kept new : Kept) (edits : List Edit) → Tells before kept → new ≡ with_edits kept edits
+pub follows_edits : (before now : Option Kept) (kept new : Kept) (edits : List Edit) → TellsKept before kept → new ≡ with_edits kept edits
     → now ≡ option_map (λ own. with_edits own edits) before → Follows before now new
 follows_edits None now kept new edits tells is made = made
 follows_edits (Some own) now kept new edits tells is made =
     made ∙ ap (λ (one : Kept). Some one) (ap (λ (one : Kept). with_edits one edits) tells ∙ sym is)
 
-pub follows_same : (before now : Option Kept) (kept new : Kept) → Tells before kept → new ≡ kept → now ≡ before → Follows before now new
+pub follows_same : (before now : Option Kept) (kept new : Kept) → TellsKept before kept → new ≡ kept → now ≡ before → Follows before now new
 follows_same None now kept new tells is same = same
 follows_same (Some own) now kept new tells is same = same ∙ ap (λ (one : Kept). Some one) (tells ∙ sym is)
 

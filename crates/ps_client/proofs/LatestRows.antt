@@ -10,7 +10,7 @@ use Rattle.std.specs.Cmp.Lexicographic.{nat_list_cmp_total}
 use Rattle.ps_bucket_log.specs.declared.ops.Op.{Op}
 use Rattle.ps_rows.specs.Source.{Key as Object}
 use Rattle.ps_client_log.specs.Kept.{Kept, bucket_at}
-use Rattle.ps_client_log.specs.Rows.{HeldCopy, Holds, object_of, Place, place_of, place_cmp, IsLatest, content_of, IsLatestContent}
+use Rattle.ps_client_log.specs.Rows.{HeldCopy, BucketHolds, object_of, Place, copy_place, place_cmp, IsLatest, content_of, IsLatestContent}
 use Rattle.ps_client.specs.Taking.{Rows, AreHeld}
 use Rattle.ps_client.proofs.ToldEntries.{same_name}
 
@@ -33,11 +33,11 @@ same_text a b is = same_name a b (texts_ties a b ∙ ap is_eq is)
 -- two latest copies of one object are one
 one_copy : (kept : Kept) (a b : HeldCopy) → IsLatest kept a → IsLatest kept b → object_of a ≡ object_of b → content_of a.put ≡ content_of b.put
 one_copy kept a b la lb same =
-    let there : is_le (place_cmp (place_of a) (place_of b)) ≡ true = lb.latest a la.held same in
-    let back : is_le (place_cmp (place_of b) (place_of a)) ≡ true = la.latest b lb.held (sym same) in
-    let tied : place_cmp (place_of a) (place_of b) ≡ Equal =
-    both_ways (place_cmp (place_of a) (place_of b)) there (ap is_le (sym (place_total.antisymm (place_of b) (place_of a))) ∙ back) in
-    let parts = then_parts (nat_cmp (place_of a).0 (place_of b).0) (ordering_then (slice_cmp nat_cmp a.bucket b.bucket) (slice_cmp nat_cmp a.key.subkey b.key.subkey)) tied in
+    let there : is_le (place_cmp (copy_place a) (copy_place b)) ≡ true = lb.latest a la.held same in
+    let back : is_le (place_cmp (copy_place b) (copy_place a)) ≡ true = la.latest b lb.held (sym same) in
+    let tied : place_cmp (copy_place a) (copy_place b) ≡ Equal =
+    both_ways (place_cmp (copy_place a) (copy_place b)) there (ap is_le (sym (place_total.antisymm (copy_place b) (copy_place a))) ∙ back) in
+    let parts = then_parts (nat_cmp (copy_place a).0 (copy_place b).0) (ordering_then (slice_cmp nat_cmp a.bucket b.bucket) (slice_cmp nat_cmp a.key.subkey b.key.subkey)) tied in
     let texts = then_parts (slice_cmp nat_cmp a.bucket b.bucket) (slice_cmp nat_cmp a.key.subkey b.key.subkey) parts.1 in
     let bucket : a.bucket ≡ b.bucket = same_text a.bucket b.bucket texts.0 in
     let subkey : a.key.subkey ≡ b.key.subkey = same_text a.key.subkey b.key.subkey texts.1 in
@@ -46,7 +46,7 @@ one_copy kept a b la lb same =
     ap (λ (o : Option Op). content_of (unwrap_or o a.put)) held
 
 one_row : (kept : Kept) (object : Object) (a b : Option (List ℕ)) → IfSome a (IsLatestContent kept object) → IfSome b (IsLatestContent kept object)
-    → ((copy : HeldCopy) → Holds kept copy → object_of copy ≡ object → IsSome a × IsSome b) → a ≡ b
+    → ((copy : HeldCopy) → BucketHolds kept copy → object_of copy ≡ object → IsSome a × IsSome b) → a ≡ b
 one_row kept object None None la lb there = refl
 one_row kept object None (Some y) la lb there = absurd (false≢true ((there lb.0 lb.1.held lb.2).0))
 one_row kept object (Some x) None la lb there = absurd (false≢true ((there la.0 la.1.held la.2).1))

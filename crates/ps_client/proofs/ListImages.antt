@@ -4,23 +4,23 @@ use Rattle.std.specs.Prelude.{bytes_eq, option_map, unwrap_or}
 use Rattle.std.proofs.lemmas.List.Sums.{fold_push}
 use Rattle.ps_bucket_log.specs.declared.ops.Op.{Op}
 use Rattle.ps_bucket_log.specs.declared.ops.Op.TheVariants.{Put, Remove, Move, Clear}
-use Rattle.ps_bucket_log.specs.Buckets.{Bucket, after, fresh, bucket_of}
+use Rattle.ps_bucket_log.specs.Buckets.{Bucket, after, fresh_bucket, bucket_of}
 use Rattle.ps_client_log.specs.Kept.{Kept, bucket_at}
 use Rattle.ps_client_log.specs.Edits.{with_taken}
 use Rattle.ps_client.specs.Lists.{Lists, received, receiving, AreImages, StayImages}
 use Rattle.ps_client.specs.Tables.{is_one_of, is_told}
 
 one_received : (ops : List Op) (op : Op) → bucket_of (received ops op) ≡ after (bucket_of ops) op
-one_received ops (Put id key content sum) = fold_push after fresh ops (Put id key content sum)
-one_received ops (Remove id key sum) = fold_push after fresh ops (Remove id key sum)
-one_received ops (Move id sum target) = fold_push after fresh ops (Move id sum target)
+one_received ops (Put id key content sum) = fold_push after fresh_bucket ops (Put id key content sum)
+one_received ops (Remove id key sum) = fold_push after fresh_bucket ops (Remove id key sum)
+one_received ops (Move id sum target) = fold_push after fresh_bucket ops (Move id sum target)
 one_received ops (Clear id sum target) = refl
 
 all_received : (ops more : List Op) → bucket_of (fold received ops more) ≡ fold after (bucket_of ops) more
 all_received ops [] = refl
 all_received ops (op ∷ more) = all_received (received ops op) more ∙ ap (λ bucket. fold after bucket more) (one_received ops op)
 
-image_at : (list : Option (List Op)) → unwrap_or (option_map bucket_of list) fresh ≡ bucket_of (unwrap_or list [])
+image_at : (list : Option (List Op)) → unwrap_or (option_map bucket_of list) fresh_bucket ≡ bucket_of (unwrap_or list [])
 image_at None = refl
 image_at (Some ops) = refl
 
@@ -45,7 +45,7 @@ images_stay lists kept are = record {
 }
   where
     at : (name : List ℕ) → bucket_at kept name ≡ bucket_of (unwrap_or (lists name) [])
-    at name = ap (λ (bucket : Option Bucket). unwrap_or bucket fresh) (are name) ∙ image_at (lists name)
+    at name = ap (λ (bucket : Option Bucket). unwrap_or bucket fresh_bucket) (are name) ∙ image_at (lists name)
 
     by : (name : List ℕ) (ops : List Op) → AreImages (receiving name ops lists) (with_taken name ops kept)
     by name [] = are

@@ -16,7 +16,7 @@ use Rattle.ps_lines.specs.declared.lines.Entry.{Entry}
 use Rattle.ps_checksum.specs.declared.sums.Sum.{Sum}
 use Rattle.ps_client_log.specs.Kept.{Kept, bucket_at}
 use Rattle.ps_client.specs.declared.events.Differing.{Differing}
-use Rattle.ps_client.specs.Tables.{Entries, is_one_of, told, is_told, with_entry, with_entries, without, last_entry, told_sum, differs, difference, differing, names_of}
+use Rattle.ps_client.specs.Tables.{Entries, is_one_of, told, is_told, with_entry, with_entries, without, last_entry, told_sum, differs, difference, differing, differing_names}
 use Rattle.ps_client.proofs.ToldEntries.{same_name, bytes_eq-self}
 
 -- ---- what is told
@@ -167,10 +167,10 @@ sorted_names p (pair ∷ pairs) sorted =
     by true below behind = (below, behind)
     by false below behind = behind
 
-named : (kept : Kept) (entries : Entries) (names : List (List ℕ)) → names_of (map (difference kept entries) names) ≡ names
+named : (kept : Kept) (entries : Entries) (names : List (List ℕ)) → differing_names (map (difference kept entries) names) ≡ names
 named kept entries [] = refl
 named kept entries (name ∷ names) = ap (λ rest. name ∷ rest) (named kept entries names)
 
-pub differing_sorted : (kept : Kept) (entries : Entries) → in_order entries ≡ true → IsStrictlySortedBy (slice_cmp nat_cmp) (names_of (differing kept entries))
+pub differing_sorted : (kept : Kept) (entries : Entries) → in_order entries ≡ true → IsStrictlySortedBy (slice_cmp nat_cmp) (differing_names (differing kept entries))
 differing_sorted kept entries sorted =
     subst (IsStrictlySortedBy (slice_cmp nat_cmp)) (sym (named kept entries (filter (differs kept entries) (keys_of entries)))) (sorted_names (differs kept entries) entries sorted)

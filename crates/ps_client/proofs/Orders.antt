@@ -20,7 +20,7 @@ use Rattle.ps_client.specs.declared.streams.Stream.TheVariants.{Over, Asked, Ope
 use Rattle.ps_client.specs.declared.tables.Table.{Table}
 use Rattle.ps_client.specs.Clients.{PlainClient, Took, said, faulted, table_of, without_buckets, checkpoint_taken, diff_taken, comes_next, data_taken, held, applied, compared, complete_taken, first_taken, next_taken, taken_in, taken}
 use Rattle.ps_client.specs.Laws.{IsSortedStream, IsSortedAnswer}
-use Rattle.ps_client.specs.Tables.{is_told, with_entries, without, differing, names_of}
+use Rattle.ps_client.specs.Tables.{is_told, with_entries, without, differing, differing_names}
 use Rattle.ps_client.proofs.Maps.{in_order, sorted_more, sorted_without, differing_sorted}
 
 abbrev InOrder : Took → Type 0
@@ -48,7 +48,7 @@ settled : (why : Option Why) (kept : Kept) (table : Table) → in_order table.to
 settled None kept table sorted = (sorted, tt)
 settled (Some why) kept table sorted = (sorted, tt)
 
-judged : (buckets : List Differing) (kept : Kept) (table : Table) → IsStrictlySortedBy (slice_cmp nat_cmp) (names_of buckets) → in_order table.told ≡ true → InOrder (compared buckets kept table)
+judged : (buckets : List Differing) (kept : Kept) (table : Table) → IsStrictlySortedBy (slice_cmp nat_cmp) (differing_names buckets) → in_order table.told ≡ true → InOrder (compared buckets kept table)
 judged [] kept table names sorted = settled (held kept table) kept table sorted
 judged (bucket ∷ buckets) kept table names sorted = (tt, names)
 

@@ -15,7 +15,7 @@ use Rattle.serde_json.specs.Read.{read}
 use Rattle.serde_json.proofs.OnLiterals.{serde_json_on_literals}
 use Rattle.ps_data.specs.Documents.{json_of}
 use Rattle.ps_data.specs.Numbers.{greatest}
-use Rattle.ps_bucket_log.specs.Buckets.{Bucket, fresh}
+use Rattle.ps_bucket_log.specs.Buckets.{Bucket, fresh_bucket}
 use Rattle.ps_lines.specs.declared.bodies.Known.{Known}
 use Rattle.ps_lines.specs.Bodies.{IsParameters}
 use Rattle.ps_client_log.specs.Kept.{Kept, bucket_at}
@@ -44,7 +44,7 @@ position_known kept names name held =
     ∙ ap (λ b. cond b (bucket_at kept name).position 0) held
     ∙ by (kept.bucket name)
   where
-    by : (bucket : Option Bucket) → cond (is_some bucket) (unwrap_or bucket fresh).position 0 ≡ (unwrap_or bucket fresh).position
+    by : (bucket : Option Bucket) → cond (is_some bucket) (unwrap_or bucket fresh_bucket).position 0 ≡ (unwrap_or bucket fresh_bucket).position
     by None = refl
     by (Some bucket) = refl
 
@@ -53,7 +53,7 @@ names_apart names sorted =
     let same : eq_by_cmp (slice_cmp nat_cmp) ≡ bytes_eq = λ i a b. sym (texts_ties a b) i in
     subst (λ (eq : List ℕ → List ℕ → Bool). IsDistinct eq names) same (IsDistinct-from_sorted (slice_cmp nat_cmp) names sorted)
 
-position_sound : (bucket : Option Bucket) → IfSome bucket IsSoundBucket → (unwrap_or bucket fresh).position ≤ greatest
+position_sound : (bucket : Option Bucket) → IfSome bucket IsSoundBucket → (unwrap_or bucket fresh_bucket).position ≤ greatest
 position_sound None sound = omega arith
 position_sound (Some bucket) sound = sound.position
 

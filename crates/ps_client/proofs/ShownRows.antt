@@ -23,10 +23,10 @@ use Rattle.ps_rows.specs.Source.{Key as Object, key_cmp}
 use Rattle.ps_rows.specs.Keys.{keys_total}
 use Rattle.ps_client_log.specs.Kept.{Kept, shown_in}
 use Rattle.ps_client_log.specs.Lending.{LentObject, object_at, lent_cmp}
-use Rattle.ps_client_log.specs.Rows.{HeldCopy, Holds, object_of, IsLatestContent, by_object, AreInOrder, row_at}
+use Rattle.ps_client_log.specs.Rows.{HeldCopy, BucketHolds, object_of, IsLatestContent, by_object, AreInOrder, shown_at}
 use Rattle.ps_client_log.specs.Soundness.{same_row}
 use Rattle.ps_client.specs.Listing.{content_at, row_at_entry}
-use Rattle.ps_client.specs.LocalWrites.{is_of, shown_with}
+use Rattle.ps_client.specs.LocalWrites.{is_of_row, shown_with}
 use Rattle.ps_client.specs.Taking.{AreHeld}
 use Rattle.ps_client.proofs.ToldEntries.{same_name}
 
@@ -88,11 +88,11 @@ or_none None = refl
 or_none (Some x) = refl
 
 -- rows in order show what is found among them
-pub shown_found : (rows : List Shown) → AreInOrder rows → (kind id : List ℕ) → shown_in rows kind id ≡ row_at (kind, id) rows
-shown_found rows sorted kind id = shown_from kind id None rows sorted ∙ or_none (row_at (kind, id) rows)
+pub shown_found : (rows : List Shown) → AreInOrder rows → (kind id : List ℕ) → shown_in rows kind id ≡ shown_at (kind, id) rows
+shown_found rows sorted kind id = shown_from kind id None rows sorted ∙ or_none (shown_at (kind, id) rows)
 
-pub held_shown : (kept : Kept) (rows : List Shown) → AreInOrder rows → ((object : Object) → IfSome (row_at object rows) (IsLatestContent kept object))
-    → ((copy : HeldCopy) → Holds kept copy → IsSome (row_at (object_of copy) rows)) → AreHeld kept (shown_in rows)
+pub held_shown : (kept : Kept) (rows : List Shown) → AreInOrder rows → ((object : Object) → IfSome (shown_at object rows) (IsLatestContent kept object))
+    → ((copy : HeldCopy) → BucketHolds kept copy → IsSome (shown_at (object_of copy) rows)) → AreHeld kept (shown_in rows)
 held_shown kept rows sorted latest all = record {
   latest = λ object. subst (λ (o : Option (List ℕ)). IfSome o (IsLatestContent kept object)) (sym (shown_found rows sorted object.0 object.1)) (latest object);
   all = λ copy holds. subst (λ (o : Option (List ℕ)). IsSome o) (sym (shown_found rows sorted copy.key.kind copy.key.id)) (all copy holds);
@@ -127,7 +127,7 @@ pub listed_in_order : (rows : List Shown) (entries : List (LentObject × Bor (Li
 listed_in_order rows entries listed sorted = ap (is_sorted key_cmp) listed ∙ sorted_entries entries sorted
 
 pub listed_same : (rows : List Shown) (index : BTreeMap LentObject (Bor (List ℕ))) (object : Object) → by_object rows ≡ map row_at_entry index.entries
-    → row_at object rows ≡ content_at index object
+    → shown_at object rows ≡ content_at index object
 listed_same rows index object listed = ap (find key_cmp object) listed ∙ find_lookup object index.entries
 
 content_cond : (b : Bool) (content : Bor (List ℕ)) (o : Option (Bor (List ℕ)))
@@ -197,9 +197,9 @@ more_in_order rows place row next within row_is next_is before sorted =
 -- ---- a change of a row
 
 abbrev others_of : Change → List Shown → List Shown
-others_of change rows = filter (λ (row : Shown). not (is_of change row.kind row.id)) rows
+others_of change rows = filter (λ (row : Shown). not (is_of_row change row.kind row.id)) rows
 
-step_skips : (change : Change) (kind id : List ℕ) (found : Option (List ℕ)) (row : Shown) → is_of change row.kind row.id ≡ true → is_of change kind id ≡ false → step kind id found row ≡ found
+step_skips : (change : Change) (kind id : List ℕ) (found : Option (List ℕ)) (row : Shown) → is_of_row change row.kind row.id ≡ true → is_of_row change kind id ≡ false → step kind id found row ≡ found
 step_skips change kind id found row dropped other =
     let own = and_parts (bytes_eq row.kind change.table) (bytes_eq row.id change.id) dropped in
     let kinds : row.kind ≡ change.table = same_name row.kind change.table own.0 in
@@ -207,7 +207,7 @@ step_skips change kind id found row dropped other =
     let not_row : is_row kind id row ≡ false = (λ j. bytes_eq kind (kinds j) && bytes_eq id (ids j)) ∙ other in
     ap (λ b. cond b (Some row.content) found) not_row
 
-step_keeps : (change : Change) (kind id : List ℕ) (found : Option (List ℕ)) (row : Shown) → is_of change row.kind row.id ≡ false → is_of change kind id ≡ true → step kind id found row ≡ found
+step_keeps : (change : Change) (kind id : List ℕ) (found : Option (List ℕ)) (row : Shown) → is_of_row change row.kind row.id ≡ false → is_of_row change kind id ≡ true → step kind id found row ≡ found
 step_keeps change kind id found row kept own =
     let parts = and_parts (bytes_eq kind change.table) (bytes_eq id change.id) own in
     let kinds : kind ≡ change.table = same_name kind change.table parts.0 in
@@ -218,18 +218,18 @@ step_keeps change kind id found row kept own =
     ap (λ b. cond b (Some row.content) found) not_row
 
 -- what is found of the row that changes is what was found before, and of another row what is found among all
-own_found : (change : Change) (kind id : List ℕ) (found : Option (List ℕ)) (rows : List Shown) → is_of change kind id ≡ true
+own_found : (change : Change) (kind id : List ℕ) (found : Option (List ℕ)) (rows : List Shown) → is_of_row change kind id ≡ true
     → fold (step kind id) found (others_of change rows) ≡ found
 own_found change kind id found [] own = refl
-own_found change kind id found (row ∷ rows) own = elim (cases_Bool (is_of change row.kind row.id)) [
+own_found change kind id found (row ∷ rows) own = elim (cases_Bool (is_of_row change row.kind row.id)) [
   | inl dropped ↦ rw dropped (own_found change kind id found rows own)
   | inr kept ↦ rw kept (ap (λ one. fold (step kind id) one (others_of change rows)) (step_keeps change kind id found row kept own) ∙ own_found change kind id found rows own)
 ]
 
-other_found : (change : Change) (kind id : List ℕ) (found : Option (List ℕ)) (rows : List Shown) → is_of change kind id ≡ false
+other_found : (change : Change) (kind id : List ℕ) (found : Option (List ℕ)) (rows : List Shown) → is_of_row change kind id ≡ false
     → fold (step kind id) found (others_of change rows) ≡ fold (step kind id) found rows
 other_found change kind id found [] other = refl
-other_found change kind id found (row ∷ rows) other = elim (cases_Bool (is_of change row.kind row.id)) [
+other_found change kind id found (row ∷ rows) other = elim (cases_Bool (is_of_row change row.kind row.id)) [
   | inl dropped ↦
       rw dropped (other_found change kind id found rows other
       ∙ ap (λ one. fold (step kind id) one rows) (sym (step_skips change kind id found row dropped other)))
@@ -240,7 +240,7 @@ pub shown_deleted : (change : Change) (rows others : List Shown) → others ≡ 
 shown_deleted change rows others is none = λ j kind id. by kind id j
   where
     by : (kind id : List ℕ) → shown_in others kind id ≡ shown_with change (shown_in rows) kind id
-    by kind id = ap (λ (all : List Shown). shown_in all kind id) is ∙ elim (cases_Bool (is_of change kind id)) [
+    by kind id = ap (λ (all : List Shown). shown_in all kind id) is ∙ elim (cases_Bool (is_of_row change kind id)) [
       | inl own ↦
           own_found change kind id None rows own
           ∙ sym (ap (λ b. cond b (option_map (document_of change.id) change.row) (shown_in rows kind id)) own ∙ ap (option_map (document_of change.id)) none)
@@ -257,7 +257,7 @@ shown_put change columns rows others changed row is some kinds ids content pushe
     put : option_map (document_of change.id) change.row ≡ Some row.content
     put = ap (option_map (document_of change.id)) some ∙ ap (λ (x : List ℕ). Some x) (sym content)
 
-    tested : (kind id : List ℕ) → is_row kind id row ≡ is_of change kind id
+    tested : (kind id : List ℕ) → is_row kind id row ≡ is_of_row change kind id
     tested kind id = λ j. bytes_eq kind (kinds j) && bytes_eq id (ids j)
 
     by : (kind id : List ℕ) → shown_in changed kind id ≡ shown_with change (shown_in rows) kind id
@@ -265,7 +265,7 @@ shown_put change columns rows others changed row is some kinds ids content pushe
         ap (λ (all : List Shown). shown_in all kind id) pushed
         ∙ fold_push (step kind id) None others row
         ∙ ap (λ b. cond b (Some row.content) (shown_in others kind id)) (tested kind id)
-        ∙ elim (cases_Bool (is_of change kind id)) [
+        ∙ elim (cases_Bool (is_of_row change kind id)) [
           | inl own ↦
               ap (λ b. cond b (Some row.content) (shown_in others kind id)) own
               ∙ sym (ap (λ b. cond b (option_map (document_of change.id) change.row) (shown_in rows kind id)) own ∙ put)
@@ -305,11 +305,11 @@ distinct_still p (row ∷ rows) distinct =
 
 pub others_distinct : (change : Change) (rows others : List Shown) → others ≡ others_of change rows → IsDistinct same_row rows → IsDistinct same_row others
 others_distinct change rows others is distinct =
-    subst (IsDistinct same_row) (sym is) (distinct_still (λ (row : Shown). not (is_of change row.kind row.id)) rows distinct)
+    subst (IsDistinct same_row) (sym is) (distinct_still (λ (row : Shown). not (is_of_row change row.kind row.id)) rows distinct)
 
 none_same : (change : Change) (row : Shown) (rows : List Shown) → row.kind ≡ change.table → row.id ≡ change.id → list_any (same_row row) (others_of change rows) ≡ false
 none_same change row [] kinds ids = refl
-none_same change row (first ∷ rows) kinds ids = elim (cases_Bool (is_of change first.kind first.id)) [
+none_same change row (first ∷ rows) kinds ids = elim (cases_Bool (is_of_row change first.kind first.id)) [
   | inl dropped ↦ rw dropped (none_same change row rows kinds ids)
   | inr kept ↦
       let apart : same_row row first ≡ false =

@@ -27,7 +27,7 @@ use Rattle.ps_changes.specs.declared.faults.ChangeFault.TheVariants.{LineTooLong
 use Rattle.ps_changes.specs.Lines.{longest, short, shaped, change_of, json_within, json_such, lone_change_of, body_of}
 use Rattle.ps_changes.specs.Members.{◌>>=◌, or_fault}
 use Rattle.ps_changes.specs.Shapes.{is_change}
-use Rattle.ps_changes.specs.Writing.{members_of, json_with, change_json, change_text}
+use Rattle.ps_changes.specs.Writing.{column_members, json_with, change_json, change_text}
 use Rattle.ps_client.specs.LocalWrites.{upload_text, IsReadAgain, FitsInt64, RowFitsInt64}
 
 abbrev pub opening : List ℕ
@@ -54,7 +54,7 @@ value_numbers (Int (pos n)) h = IsNumber-decimal n (omega (arith, h))
 value_numbers (Int (negsuc n)) h = IsNumber-signed_decimal (negsuc n) h
 value_numbers (Text t) h = tt
 
-members_numbers : (columns : List Column) → RowFitsInt64 (Some columns) → MembersHaveNumbers (members_outline (members_of columns))
+members_numbers : (columns : List Column) → RowFitsInt64 (Some columns) → MembersHaveNumbers (members_outline (column_members columns))
 members_numbers [] h = tt
 members_numbers (column ∷ columns) h = (value_numbers column.value h.0, members_numbers columns h.1)
 
@@ -71,7 +71,7 @@ value_shallow Null = omega arith
 value_shallow (Int n) = omega arith
 value_shallow (Text t) = omega arith
 
-members_shallow : (columns : List Column) → members_depth (members_outline (members_of columns)) ≤ 0
+members_shallow : (columns : List Column) → members_depth (members_outline (column_members columns)) ≤ 0
 members_shallow [] = omega arith
 members_shallow (column ∷ columns) = let here = value_shallow column.value in let rest = members_shallow columns in omega (arith, here, rest)
 

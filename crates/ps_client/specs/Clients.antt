@@ -24,7 +24,7 @@ use Rattle.ps_client.specs.declared.faults.ClientFault.TheVariants.{OutOfOrder, 
 use Rattle.ps_client.specs.declared.tables.Table.{Table}
 use Rattle.ps_client.specs.declared.streams.Stream.{Stream}
 use Rattle.ps_client.specs.declared.streams.Stream.TheVariants.{Over, Asked, Open}
-use Rattle.ps_client.specs.Tables.{Entries, is_one_of, is_told, with_entries, without, differing, agrees, names_of}
+use Rattle.ps_client.specs.Tables.{Entries, is_one_of, is_told, with_entries, without, differing, agrees, differing_names}
 
 -- what it keeps (its buckets, the local writes that wait, the target and the rows that are shown), and its stream
 pub record PlainClient : Type 0 where
@@ -114,7 +114,7 @@ applied None kept table = said (freed kept) (Open table) (Applied table.last_op)
 
 -- buckets that differ go, and with them the stream
 abbrev pub refused : List Differing → Kept → Took
-refused buckets kept = said (without_buckets (names_of buckets) kept) Over (Refused buckets)
+refused buckets kept = said (without_buckets (differing_names buckets) kept) Over (Refused buckets)
 
 abbrev pub compared : List Differing → Kept → Table → Took
 compared [] kept table = applied (held kept table) kept table

@@ -72,6 +72,6 @@ SaysEvent event (Err (QueueWaiting length)) before now = ⊥
 SaysEvent event (Err Memory) before now = Unit {0}
 
 -- where the plain client says something, so does the client
-abbrev pub Says : Result Event ClientFault → Result Event ClientFault → ℕ → ℕ → Type 0
-Says (Ok event) own before now = SaysEvent event own before now
-Says (Err fault) own before now = Unit {0}
+abbrev pub SaysAsPlain : Result Event ClientFault → Result Event ClientFault → ℕ → ℕ → Type 0
+SaysAsPlain (Ok event) own before now = SaysEvent event own before now
+SaysAsPlain (Err fault) own before now = Unit {0}

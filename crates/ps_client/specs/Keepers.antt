@@ -12,9 +12,9 @@ abbrev pub Follows : Option Kept → Option Kept → Kept → Type 0
 Follows before now kept = now ≡ option_map (λ _. kept) before
 
 -- a keeper's fault as the client's
-abbrev pub fault_of : KeepFault → ClientFault
-fault_of Failed = faults.KeeperFault
-fault_of Memory = faults.Memory
+abbrev pub client_fault : KeepFault → ClientFault
+client_fault Failed = faults.KeeperFault
+client_fault Memory = faults.Memory
 
 -- a keeper's fault comes only where its count rose
 abbrev pub RoseAtFault : ClientFault → ℕ → ℕ → Type 0

@@ -18,7 +18,7 @@ use Rattle.ps_client.specs.declared.streams.Stream.TheVariants.{Over, Asked, Ope
 use Rattle.ps_client.specs.Clients.{PlainClient, taken}
 use Rattle.ps_client.specs.Lists.{Lists, AreImages, StayImages}
 use Rattle.ps_client.specs.Taking.{Rows, AreHeld}
-use Rattle.ps_client.specs.Tables.{Entries, is_one_of, told, is_told, with_entries, without, last_entry, told_sum, differing, names_of}
+use Rattle.ps_client.specs.Tables.{Entries, is_one_of, told, is_told, with_entries, without, last_entry, told_sum, differing, differing_names}
 
 -- of the entries of one bucket the last counts
 abbrev pub LastIsTold : Type 0
@@ -49,7 +49,7 @@ abbrev pub IsSortedEvent : Event → Type 0
 IsSortedEvent Nothing = Unit {0}
 IsSortedEvent (Applied op) = Unit {0}
 IsSortedEvent (Held why) = Unit {0}
-IsSortedEvent (Refused buckets) = IsStrictlySortedBy (slice_cmp nat_cmp) (names_of buckets)
+IsSortedEvent (Refused buckets) = IsStrictlySortedBy (slice_cmp nat_cmp) (differing_names buckets)
 IsSortedEvent (Expiring seconds) = Unit {0}
 
 abbrev pub IsSortedAnswer : Result Event ClientFault → Type 0

@@ -18,12 +18,12 @@ use Rattle.ps_client.specs.Clients.{PlainClient}
 use Rattle.ps_client.specs.Taking.{Rows}
 
 -- the kind and the id are the row's that a change is of
-abbrev pub is_of : Change → List ℕ → List ℕ → Bool
-is_of change kind id = bytes_eq kind change.table && bytes_eq id change.id
+abbrev pub is_of_row : Change → List ℕ → List ℕ → Bool
+is_of_row change kind id = bytes_eq kind change.table && bytes_eq id change.id
 
 -- a PUT shows the compact object of its columns and its id, and a DELETE shows nothing
 abbrev pub shown_with : Change → Rows → Rows
-shown_with change rows kind id = if is_of change kind id then option_map (document_of change.id) change.row else rows kind id
+shown_with change rows kind id = if is_of_row change kind id then option_map (document_of change.id) change.row else rows kind id
 
 -- the write waits at the end of the queue, the target is pending, and its row is shown
 abbrev pub written : Change → Kept → Kept

@@ -15,8 +15,8 @@ abbrev pub state : {K : Type 0} → Client K → PlainClient
 state client = record { kept = logs.kept client.log; stream = client.stream }
 
 -- its own id
-abbrev pub name_of : {K : Type 0} → Client K → List ℕ
-name_of client = client.name
+abbrev pub client_name : {K : Type 0} → Client K → List ℕ
+client_name client = client.name
 
 -- no stream was begun, and what is kept is sound
 pub record IsOpened (client : PlainClient) : Type 0 where

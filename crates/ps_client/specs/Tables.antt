@@ -66,5 +66,5 @@ differing kept entries = map (difference kept entries) (filter (differs kept ent
 abbrev pub agrees : Kept → Entries → Bool
 agrees kept entries = list_all (λ name. not (differs kept entries name)) (keys_of entries)
 
-abbrev pub names_of : List Differing → List (List ℕ)
-names_of buckets = map (λ (differing : Differing). differing.bucket) buckets
+abbrev pub differing_names : List Differing → List (List ℕ)
+differing_names buckets = map (λ (differing : Differing). differing.bucket) buckets

@@ -8,7 +8,7 @@ use Rattle.ps_lines.specs.declared.lines.Line.{Line}
 use Rattle.ps_lines.specs.declared.lines.Line.TheVariants.{Checkpoint, Diff, Data, Complete, Expires, Unknown}
 use Rattle.ps_rows.specs.Source.{Key as Object}
 use Rattle.ps_client_log.specs.Kept.{Kept}
-use Rattle.ps_client_log.specs.Rows.{HeldCopy, Holds, IsLatestContent}
+use Rattle.ps_client_log.specs.Rows.{HeldCopy, BucketHolds, IsLatestContent}
 use Rattle.ps_client.specs.declared.events.Event.{Event}
 use Rattle.ps_client.specs.declared.events.Event.TheVariants.{Nothing, Applied, Held, Refused, Expiring}
 use Rattle.ps_client.specs.declared.faults.ClientFault.{ClientFault}
@@ -23,7 +23,7 @@ Rows = List ℕ → List ℕ → Option (List ℕ)
 -- the rows are those that the buckets hold: for each object the data of its latest copy, and no others
 pub record AreHeld (kept : Kept) (rows : Rows) : Type 0 where
   pub latest : (object : Object) → IfSome (rows object.0 object.1) (IsLatestContent kept object)
-  pub all : (copy : HeldCopy) → Holds kept copy → IsSome (rows copy.key.kind copy.key.id)
+  pub all : (copy : HeldCopy) → BucketHolds kept copy → IsSome (rows copy.key.kind copy.key.id)
 
 -- the rows that are shown after an event: those that are held where a checkpoint was applied, else the same as before
 abbrev pub Shows : Event → Kept → Rows → Type 0
@@ -38,7 +38,7 @@ abbrev pub showing : Rows → PlainClient → PlainClient
 showing rows client = record { kept = record client.kept { shown = rows }; stream = client.stream }
 
 -- the plain client says this, and becomes this one, whose rows are those of the event
-pub record IsTaken (took : Took) (old : Kept) (event : Event) (new : PlainClient) : Type 0 where
+pub record LineIsTaken (took : Took) (old : Kept) (event : Event) (new : PlainClient) : Type 0 where
   pub answer : took.answer ≡ Ok event
   pub client : new ≡ showing new.kept.shown took.client
   pub shown : Shows event old new.kept.shown
@@ -67,9 +67,9 @@ IsReadFault meant (QueueWaiting length) = ⊥
 IsReadFault meant Memory = Unit {0}
 
 -- what a line does, with the stream taken out of the client
-abbrev pub Takes : Took → Kept → Kept → Result Step ClientFault → Type 0
-Takes took old new (Ok step) = IsTaken took old step.event (record { kept = new; stream = step.stream })
-Takes took old new (Err fault) = IsRefusal took old new fault
+abbrev pub MakesStep : Took → Kept → Kept → Result Step ClientFault → Type 0
+MakesStep took old new (Ok step) = LineIsTaken took old step.event (record { kept = new; stream = step.stream })
+MakesStep took old new (Err fault) = IsRefusal took old new fault
 
 -- a data line as one is read: its ids rise from past the one that it goes on from, up to the greatest
 abbrev pub IsInOrder : Line → Type 0
@@ -81,6 +81,6 @@ IsInOrder (Expires seconds) = Unit {0}
 IsInOrder Unknown = Unit {0}
 
 -- what a client answers to a line
-abbrev pub Answers : Took → PlainClient → PlainClient → Result Event ClientFault → Type 0
-Answers took old new (Ok event) = IsTaken took old.kept event new
-Answers took old new (Err fault) = IsFault took fault
+abbrev pub AnswersLine : Took → PlainClient → PlainClient → Result Event ClientFault → Type 0
+AnswersLine took old new (Ok event) = LineIsTaken took old.kept event new
+AnswersLine took old new (Err fault) = IsFault took fault

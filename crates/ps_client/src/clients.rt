@@ -6,18 +6,19 @@ ghost use Rattle.ps_lines.specs.Reading.{line_of, without_feed};
 ghost use Rattle.ps_lines.specs.declared.faults.LineFault.TheVariants.{BadJson};
 ghost use Rattle.ps_rows.specs.Source.{Key as Object};
 ghost use Rattle.ps_client_log.specs.Kept.{nothing_kept};
-ghost use Rattle.ps_client_log.specs.Keeping.{RoseAt, Tells, one_more};
-ghost use Rattle.ps_client_log.specs.Rows.{AreInOrder, row_at};
+ghost use Rattle.ps_client_log.specs.Keeping.{RoseAt, TellsKept, one_more};
+ghost use Rattle.ps_client_log.specs.Rows.{AreInOrder, shown_at};
 ghost use Rattle.ps_client.specs.Clients.{asked, ended, line_taken, matches_told, is_pending};
 ghost use Rattle.ps_client.specs.declared.faults.ClientFault.TheVariants.{BadLine};
-ghost use Rattle.ps_client.specs.Commits.{EditsIf, Commits, FaultsOnlyWhere, Says};
+ghost use Rattle.ps_client.specs.Commits.{EditsIf, Commits, FaultsOnlyWhere, SaysAsPlain};
 ghost use Rattle.ps_client.specs.Keepers.{Follows, RoseWhereFaulted};
 ghost use Rattle.ps_client.specs.LocalWrites.{written, popped, aimed, keeping, FailsBelow, WantsWrites, WantsNoWrites, next_upload, oldest, IsReadAgain};
 ghost use Rattle.ps_client.specs.Requests.{IsRequest};
-ghost use Rattle.ps_client.specs.States.{keeper_of, state, name_of, IsOpened};
-ghost use Rattle.ps_client.specs.Taking.{Answers, IsInOrder, IsReadFault};
+ghost use Rattle.ps_client.specs.States.{keeper_of, state, client_name, IsOpened};
+ghost use Rattle.ps_client.specs.Taking.{AnswersLine, IsInOrder, IsReadFault};
 
 use crate::local_writes::{aim, next_body, pop, write};
+use crate::notes::note_kept;
 use crate::requests::request_for;
 use crate::showing::rows_in_order;
 use crate::streams::Stream;
@@ -67,7 +68,7 @@ impl Client<VolatileKeeper> {
     pub fn begin(alloc: Global, keeper: VolatileKeeper, client: Text) -> Client<VolatileKeeper>
         ensures opened { IsOpened (state result) }
         ensures kept { (state result).kept ≡ nothing_kept }
-        ensures name { name_of result ≡ client }
+        ensures name { client_name result ≡ client }
         ensures keeper { keeper_of result ≡ keeper }
     {
         Client {
@@ -83,8 +84,8 @@ impl<K: Keeper> Client<K> {
     /// for keys that nobody chose for it. Fails as `open_hashed` does, and gives the keeper back then.
     pub fn open(alloc: Global, keeper: K, client: Text) -> Result<Client<K>, (K, KeepFault)>
         ensures opened { IfOk result (λ opened. IsOpened (state opened)) }
-        ensures kept { IfOk result (λ opened. Tells (K.held keeper) (state opened).kept) }
-        ensures name { IfOk result (λ opened. name_of opened ≡ client) }
+        ensures kept { IfOk result (λ opened. TellsKept (K.held keeper) (state opened).kept) }
+        ensures name { IfOk result (λ opened. client_name opened ≡ client) }
         ensures held { IfOk result (λ opened. K.held (keeper_of opened) ≡ K.held keeper) }
         ensures faults { IfOk result (λ opened. K.faults (keeper_of opened) ≡ K.faults keeper) }
         ensures refused_held { IfErr result (λ refused. K.held refused.0 ≡ K.held keeper) }
@@ -106,8 +107,8 @@ impl<K: Keeper> Client<K> {
         hashing: Hashing,
     ) -> Result<Client<K>, (K, KeepFault)>
         ensures opened { IfOk result (λ opened. IsOpened (state opened)) }
-        ensures kept { IfOk result (λ opened. Tells (K.held keeper) (state opened).kept) }
-        ensures name { IfOk result (λ opened. name_of opened ≡ client) }
+        ensures kept { IfOk result (λ opened. TellsKept (K.held keeper) (state opened).kept) }
+        ensures name { IfOk result (λ opened. client_name opened ≡ client) }
         ensures held { IfOk result (λ opened. K.held (keeper_of opened) ≡ K.held keeper) }
         ensures faults { IfOk result (λ opened. K.faults (keeper_of opened) ≡ K.faults keeper) }
         ensures refused_held { IfErr result (λ refused. K.held refused.0 ≡ K.held keeper) }
@@ -141,12 +142,12 @@ impl<K: Keeper> Client<K> {
     /// Begins a stream: the request names every bucket that is held with its position, by name, and the client's id, with
     /// the parameters `{}`. An earlier stream is over. Where memory runs out nothing changes.
     pub fn request(&mut self, alloc: Global) -> Result<StreamBody, Memory>
-        ensures request { IfOk result (IsRequest (state self.old).kept (name_of self.old)) }
+        ensures request { IfOk result (IsRequest (state self.old).kept (client_name self.old)) }
         ensures body { IfOk result IsBody }
         ensures ok { OnOk result (state self.new ≡ asked (state self.old)) }
         ensures err { OnErr result (state self.new ≡ state self.old) }
         ensures keeper { keeper_of self.new ≡ keeper_of self.old }
-        ensures name { name_of self.new ≡ name_of self.old }
+        ensures name { client_name self.new ≡ client_name self.old }
     {
         let body = request_for(alloc, &self.log, &self.name)?;
         self.stream = Stream::Asked;
@@ -158,17 +159,17 @@ impl<K: Keeper> Client<K> {
     /// `KeeperFault` where the keeper failed, and when out of memory. The keeper is asked for a commit, and
     /// can fail, only where a checkpoint is applied or refused, buckets go, or operations come. After a fault the stream is over and what is kept is as before.
     pub fn take_line(&mut self, alloc: Global, line: &[u8]) -> Result<Event, ClientFault>
-        ensures taken { Answers (line_taken (state self.old) line.now) (state self.old) (state self.new) result }
+        ensures taken { AnswersLine (line_taken (state self.old) line.now) (state self.old) (state self.new) result }
         ensures err { OnErr result (state self.new ≡ ended (state self.old)) }
         ensures follows { Follows (K.held (keeper_of self.old)) (K.held (keeper_of self.new)) (state self.new).kept }
         ensures failed { RoseWhereFaulted result (K.faults (keeper_of self.old)) (K.faults (keeper_of self.new)) }
         ensures faults { K.faults (keeper_of self.old) ≤ K.faults (keeper_of self.new) }
         ensures quiet { OnOk result (K.faults (keeper_of self.new) ≡ K.faults (keeper_of self.old)) }
-        ensures name { name_of self.new ≡ name_of self.old }
+        ensures name { client_name self.new ≡ client_name self.old }
         // The keeper's fault comes only where the plain client's answer is one that commits.
         ensures commits { FaultsOnlyWhere (Commits (EditsIf (state self.old).kept (line_of line.now)) (line_taken (state self.old) line.now).answer) result }
         // Where the plain client says something, so does this one, but for out of memory and for its keeper.
-        ensures says { Says (line_taken (state self.old) line.now).answer result (K.faults (keeper_of self.old)) (K.faults (keeper_of self.new)) }
+        ensures says { SaysAsPlain (line_taken (state self.old) line.now).answer result (K.faults (keeper_of self.old)) (K.faults (keeper_of self.new)) }
         // What is no text is no line, whatever memory there is.
         ensures no_text { ¬ (IsUtf8 (without_feed line.now)) → result ≡ Err (BadLine BadJson) }
     {
@@ -177,17 +178,17 @@ impl<K: Keeper> Client<K> {
 
     // Takes a line of the stream.
     fn take(&mut self, alloc: Global, line: &[u8]) -> Result<Event, ClientFault>
-        ensures taken { Answers (line_taken (state self.old) line.now) (state self.old) (state self.new) result }
+        ensures taken { AnswersLine (line_taken (state self.old) line.now) (state self.old) (state self.new) result }
         ensures err { OnErr result (state self.new ≡ ended (state self.old)) }
         ensures follows { Follows (K.held (keeper_of self.old)) (K.held (keeper_of self.new)) (state self.new).kept }
         ensures failed { RoseWhereFaulted result (K.faults (keeper_of self.old)) (K.faults (keeper_of self.new)) }
         ensures faults { K.faults (keeper_of self.old) ≤ K.faults (keeper_of self.new) }
         ensures quiet { OnOk result (K.faults (keeper_of self.new) ≡ K.faults (keeper_of self.old)) }
-        ensures name { name_of self.new ≡ name_of self.old }
+        ensures name { client_name self.new ≡ client_name self.old }
         ensures commits { FaultsOnlyWhere (Commits (EditsIf (state self.old).kept (line_of line.now)) (line_taken (state self.old) line.now).answer) result }
         ensures no_text { ¬ (IsUtf8 (without_feed line.now)) → result ≡ Err (BadLine BadJson) }
     {
-        let _target = self.log.target();
+        note_kept(&self.log);
         let stream = mem::replace(&mut self.stream, Stream::Over);
         let line = read(alloc, line)?;
         let Step { event, stream } = taking::take(alloc, &mut self.log, stream, line)?;
@@ -218,7 +219,7 @@ impl<K: Keeper> Client<K> {
     /// Copies of the rows of the checkpoint that was applied last with later local writes over them, in the order of kind and id.
     pub fn rows(&self, alloc: Global) -> Result<Items<Shown>, Memory>
         ensures in_order { IfOk result AreInOrder }
-        ensures shown { IfOk result (λ rows. (object : Object) → row_at object rows ≡ (state self.now).kept.shown object.0 object.1) }
+        ensures shown { IfOk result (λ rows. (object : Object) → shown_at object rows ≡ (state self.now).kept.shown object.0 object.1) }
     {
         rows_in_order(alloc, self.log.shown())
     }
@@ -236,7 +237,7 @@ impl<K: Keeper> Client<K> {
         ensures failed { RoseWhereFaulted result (K.faults (keeper_of self.old)) (K.faults (keeper_of self.new)) }
         ensures faults { K.faults (keeper_of self.old) ≤ K.faults (keeper_of self.new) }
         ensures quiet { OnOk result (K.faults (keeper_of self.new) ≡ K.faults (keeper_of self.old)) }
-        ensures name { name_of self.new ≡ name_of self.old }
+        ensures name { client_name self.new ≡ client_name self.old }
     {
         write(alloc, &mut self.log, change)?;
         Ok(())
@@ -272,9 +273,9 @@ impl<K: Keeper> Client<K> {
         ensures failed { RoseWhereFaulted result (K.faults (keeper_of self.old)) (K.faults (keeper_of self.new)) }
         ensures faults { K.faults (keeper_of self.old) ≤ K.faults (keeper_of self.new) }
         ensures quiet { OnOk result (K.faults (keeper_of self.new) ≡ K.faults (keeper_of self.old)) }
-        ensures name { name_of self.new ≡ name_of self.old }
+        ensures name { client_name self.new ≡ client_name self.old }
     {
-        let _target = self.log.target();
+        note_kept(&self.log);
         if self.log.queue().is_empty() {
             return Err(ClientFault::QueueEmpty);
         }
@@ -294,9 +295,9 @@ impl<K: Keeper> Client<K> {
         ensures failed { RoseWhereFaulted result (K.faults (keeper_of self.old)) (K.faults (keeper_of self.new)) }
         ensures faults { K.faults (keeper_of self.old) ≤ K.faults (keeper_of self.new) }
         ensures quiet { OnOk result (K.faults (keeper_of self.new) ≡ K.faults (keeper_of self.old)) }
-        ensures name { name_of self.new ≡ name_of self.old }
+        ensures name { client_name self.new ≡ client_name self.old }
     {
-        let _target = self.log.target();
+        note_kept(&self.log);
         let length = self.log.queue().len() as u64;
         if length > 0 {
             return Err(ClientFault::QueueWaiting { length });

@@ -28,9 +28,9 @@ pub enum ClientFault {
 
 impl From<KeepFault> for ClientFault {
     ghost use Rattle.std.specs.Prelude.{◌≡◌};
-    ghost use Rattle.ps_client.specs.Keepers.{fault_of};
+    ghost use Rattle.ps_client.specs.Keepers.{client_fault};
 
-    ghost from_gives = { λ failed fault. fault ≡ fault_of failed };
+    ghost from_gives = { λ failed fault. fault ≡ client_fault failed };
 
     fn from(failed: KeepFault) -> ClientFault {
         match failed {

@@ -4,8 +4,9 @@
 mod clients;
 mod events;
 mod faults;
-mod laws;
+pub mod laws;
 mod local_writes;
+mod notes;
 mod requests;
 mod showing;
 mod streams;
@@ -16,7 +17,3 @@ mod telling;
 pub use clients::Client;
 pub use events::{Differing, Event, Why};
 pub use faults::ClientFault;
-pub use laws::{
-    buckets_are_refused_by_name, buckets_stay_the_images_of_lists,
-    only_differing_buckets_are_refused, shown_rows_are_determined, tables_are_maps,
-};

@@ -5,10 +5,11 @@ ghost use Rattle.ps_client_log.specs.Logs.{kept, keeper_of};
 ghost use Rattle.ps_client.specs.Keepers.{Follows};
 ghost use Rattle.ps_client.specs.LocalWrites.{written, popped, aimed, upload_text, next_upload, IsReadAgain, FitsInt64, RowFitsInt64};
 
+use crate::notes::note_kept;
 use crate::showing::rows_with;
 use crate::taking::commit;
 use ps_changes::write_change;
-use ps_client_log::{ClientLog, Edit, KeepFault, Keeper, Target, edits_leave_what_is_sound};
+use ps_client_log::{ClientLog, Edit, KeepFault, Keeper, Target};
 use ps_data::{Memory, Value};
 use ps_rows::{Change, Row};
 use std::alloc::Global;
@@ -27,8 +28,8 @@ pub fn write<K: Keeper>(
     ensures faults { K.faults (keeper_of log.old) ≤ K.faults (keeper_of log.new) }
     ensures quiet { OnOk result (K.faults (keeper_of log.new) ≡ K.faults (keeper_of log.old)) }
 {
-    edits_leave_what_is_sound();
-    let _target = log.target();
+    ps_client_log::laws::edits_leave_what_is_sound();
+    note_kept(log);
     let rows = rows_with(alloc, log.shown(), &change)?;
     let target = Target::Pending;
     let edits = vec![in alloc;
@@ -49,8 +50,8 @@ pub fn pop<K: Keeper>(alloc: Global, log: &mut ClientLog<K>) -> Result<(), KeepF
     ensures faults { K.faults (keeper_of log.old) ≤ K.faults (keeper_of log.new) }
     ensures quiet { OnOk result (K.faults (keeper_of log.new) ≡ K.faults (keeper_of log.old)) }
 {
-    edits_leave_what_is_sound();
-    let _target = log.target();
+    ps_client_log::laws::edits_leave_what_is_sound();
+    note_kept(log);
     let edits = vec![in alloc; Edit::Pop]?;
     commit(alloc, log, edits)
 }
@@ -65,8 +66,8 @@ pub fn aim<K: Keeper>(alloc: Global, log: &mut ClientLog<K>, number: u64) -> Res
     ensures faults { K.faults (keeper_of log.old) ≤ K.faults (keeper_of log.new) }
     ensures quiet { OnOk result (K.faults (keeper_of log.new) ≡ K.faults (keeper_of log.old)) }
 {
-    edits_leave_what_is_sound();
-    let _target = log.target();
+    ps_client_log::laws::edits_leave_what_is_sound();
+    note_kept(log);
     let target = Target::Number(number);
     let edits = vec![in alloc; Edit::Aim { target }]?;
     commit(alloc, log, edits)

@@ -3,6 +3,7 @@ ghost use Rattle.ps_client_log.specs.Logs.{kept};
 ghost use Rattle.ps_client.specs.Requests.{known_at, IsRequest};
 ghost use Rattle.ps_lines.specs.Bodies.{IsBody, IsParameters};
 
+use crate::notes::note_kept;
 use ps_client_log::{ClientLog, Keeper};
 use ps_data::{Items, Memory, Text};
 use ps_lines::{Known, StreamBody};
@@ -43,7 +44,7 @@ pub fn request_for<K: Keeper>(
     ensures request { IfOk result (IsRequest (kept log.now) client.now) }
     ensures body { IfOk result IsBody }
 {
-    let _target = log.target();
+    note_kept(log);
     let names = log.names(alloc)?;
     let positions = positions_of(alloc, log, names)?;
     Ok(StreamBody {

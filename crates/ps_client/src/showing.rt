@@ -5,10 +5,10 @@ ghost use Rattle.std.specs.Ordering.{is_lt};
 ghost use Rattle.ps_rows.specs.Source.{Key as Object, key_cmp};
 ghost use Rattle.ps_client_log.specs.Kept.{shown_in};
 ghost use Rattle.ps_client_log.specs.Lending.{lent_cmp, row_from};
-ghost use Rattle.ps_client_log.specs.Rows.{by_object, AreInOrder, row_at};
+ghost use Rattle.ps_client_log.specs.Rows.{by_object, AreInOrder, shown_at};
 ghost use Rattle.ps_client_log.specs.Soundness.{same_row};
 ghost use Rattle.ps_client.specs.Listing.{content_at, row_at_entry};
-ghost use Rattle.ps_client.specs.LocalWrites.{is_of, shown_with};
+ghost use Rattle.ps_client.specs.LocalWrites.{is_of_row, shown_with};
 
 use ps_client_log::Shown;
 use ps_data::{Copied, Items, Memory, Text, copy_all};
@@ -94,7 +94,7 @@ fn listed<'a>(
 // Copies of rows, put in the order of kind and id.
 fn rows_sorted(alloc: Global, rows: &[Shown]) -> Result<Items<Shown>, Memory>
     ensures in_order { IfOk result AreInOrder }
-    ensures same { IfOk result (λ listed. (object : Object) → row_at object listed ≡ shown_in rows.now object.0 object.1) }
+    ensures same { IfOk result (λ listed. (object : Object) → shown_at object listed ≡ shown_in rows.now object.0 object.1) }
 {
     let index = indexed(alloc, rows)?;
     listed(alloc, index)
@@ -103,7 +103,7 @@ fn rows_sorted(alloc: Global, rows: &[Shown]) -> Result<Items<Shown>, Memory>
 /// Copies of rows, in the order of kind and id.
 pub fn rows_in_order(alloc: Global, rows: &[Shown]) -> Result<Items<Shown>, Memory>
     ensures in_order { IfOk result AreInOrder }
-    ensures same { IfOk result (λ listed. (object : Object) → row_at object listed ≡ shown_in rows.now object.0 object.1) }
+    ensures same { IfOk result (λ listed. (object : Object) → shown_at object listed ≡ shown_in rows.now object.0 object.1) }
 {
     // Those of a checkpoint are in order as they are shown.
     if are_in_order(rows) {
@@ -114,14 +114,14 @@ pub fn rows_in_order(alloc: Global, rows: &[Shown]) -> Result<Items<Shown>, Memo
 
 // Whether a row is the one that a change is of.
 fn is_changed(row: &Shown, change: &Change) -> bool
-    ensures { result ≡ is_of change.now row.now.kind row.now.id }
+    ensures { result ≡ is_of_row change.now row.now.kind row.now.id }
 {
     row.kind.equals(&change.table) && row.id.equals(&change.id)
 }
 
 // Copies of the rows that a change is not of.
 fn unchanged(alloc: Global, rows: &[Shown], change: &Change) -> Result<Items<Shown>, Memory>
-    ensures { IfOk result (λ others. others ≡ filter (λ row. not (is_of change.now row.kind row.id)) rows.now) }
+    ensures { IfOk result (λ others. others ≡ filter (λ row. not (is_of_row change.now row.kind row.id)) rows.now) }
 {
     let mut others = Items::new(alloc);
     'rows: for row in rows {

@@ -11,15 +11,16 @@ ghost use Rattle.ps_client.specs.declared.events.Event.TheVariants as events;
 ghost use Rattle.ps_client.specs.Clients.{only_told, without_buckets, checkpoint_taken, diff_taken, data_taken, complete_taken, applied as applied_by, comes_next as comes_next_to, held_by as held_for, freed, refused as refused_for, taken_in, first_taken, next_taken};
 ghost use Rattle.ps_client.specs.Commits.{KeepsUntold, Edits, Commits, FailsOnlyWhere, FaultsOnlyWhere};
 ghost use Rattle.ps_client.specs.Keepers.{Follows, RoseWhereFaulted};
-ghost use Rattle.ps_client.specs.Tables.{is_told, with_entries, names_of as names_in};
-ghost use Rattle.ps_client.specs.Taking.{AreHeld, Takes, IsInOrder};
+ghost use Rattle.ps_client.specs.Tables.{is_told, with_entries, differing_names as names_in};
+ghost use Rattle.ps_client.specs.Taking.{AreHeld, MakesStep, IsInOrder};
 
+use crate::notes::note_kept;
 use crate::streams::Stream;
 use crate::tables::Table;
 use crate::telling::Told;
 use crate::{ClientFault, Differing, Event, Why};
 use ps_bucket_log::Op;
-use ps_client_log::{ClientLog, Edit, KeepFault, Keeper, Target, edits_leave_what_is_sound};
+use ps_client_log::{ClientLog, Edit, KeepFault, Keeper, Target};
 use ps_data::{Items, Memory, OpId, Text};
 use ps_lines::{Entry, Line};
 use std::alloc::Global;
@@ -57,7 +58,7 @@ pub fn commit<K: Keeper>(
     ensures none { edits.items ≡ [] → IsOk result }
     ensures untouched { edits.items ≡ [] → keeper_of log.new ≡ keeper_of log.old }
 {
-    let _target = log.target();
+    note_kept(log);
     if edits.is_empty() {
         return Ok(());
     }
@@ -89,8 +90,8 @@ fn delete_all<K: Keeper>(
     ensures quiet { OnOk result (K.faults (keeper_of log.new) ≡ K.faults (keeper_of log.old)) }
     ensures some { FailsOnlyWhere (names.items ≢ []) result }
 {
-    edits_leave_what_is_sound();
-    let _target = log.target();
+    ps_client_log::laws::edits_leave_what_is_sound();
+    note_kept(log);
     let edits = deletes(alloc, names)?;
     commit(alloc, log, edits)
 }
@@ -114,7 +115,7 @@ fn keep_told<K: Keeper>(alloc: Global, log: &mut ClientLog<K>, told: &Told) -> R
     ensures quiet { OnOk result (K.faults (keeper_of log.new) ≡ K.faults (keeper_of log.old)) }
     ensures some { FailsOnlyWhere (KeepsUntold told.now (kept log.old)) result }
 {
-    let _target = log.target();
+    note_kept(log);
     let names = log.names(alloc)?;
     let names = untold(names, told);
     delete_all(alloc, log, names)
@@ -128,14 +129,14 @@ fn take_checkpoint<K: Keeper>(
     number: Option<u64>,
     buckets: Items<Entry>,
 ) -> Result<Step, ClientFault>
-    ensures taken { Takes (checkpoint_taken (kept log.old) last_op number buckets) (kept log.old) (kept log.new) result }
+    ensures taken { MakesStep (checkpoint_taken (kept log.old) last_op number buckets) (kept log.old) (kept log.new) result }
     ensures follows { Follows (K.held (keeper_of log.old)) (K.held (keeper_of log.new)) (kept log.new) }
     ensures failed { RoseWhereFaulted result (K.faults (keeper_of log.old)) (K.faults (keeper_of log.new)) }
     ensures faults { K.faults (keeper_of log.old) ≤ K.faults (keeper_of log.new) }
     ensures quiet { OnOk result (K.faults (keeper_of log.new) ≡ K.faults (keeper_of log.old)) }
     ensures commits { FaultsOnlyWhere (KeepsUntold (with_entries [] buckets) (kept log.old)) result }
 {
-    let _target = log.target();
+    note_kept(log);
     let mut told = Told::new(alloc);
     told.tell(alloc, buckets)?;
     keep_told(alloc, log, &told)?;
@@ -157,14 +158,14 @@ fn take_diff<K: Keeper>(
     removed: Items<Text>,
     updated: Items<Entry>,
 ) -> Result<Step, ClientFault>
-    ensures taken { Takes (diff_taken (kept log.old) table last_op number removed updated) (kept log.old) (kept log.new) result }
+    ensures taken { MakesStep (diff_taken (kept log.old) table last_op number removed updated) (kept log.old) (kept log.new) result }
     ensures follows { Follows (K.held (keeper_of log.old)) (K.held (keeper_of log.new)) (kept log.new) }
     ensures failed { RoseWhereFaulted result (K.faults (keeper_of log.old)) (K.faults (keeper_of log.new)) }
     ensures faults { K.faults (keeper_of log.old) ≤ K.faults (keeper_of log.new) }
     ensures quiet { OnOk result (K.faults (keeper_of log.new) ≡ K.faults (keeper_of log.old)) }
     ensures commits { FaultsOnlyWhere (Commits (removed ≢ []) (diff_taken (kept log.old) table last_op number removed updated).answer) result }
 {
-    let _target = log.target();
+    note_kept(log);
     let mut told = table.told;
     if !told.are_told(removed.as_slice()) {
         return Err(ClientFault::OutOfOrder);
@@ -213,14 +214,14 @@ fn take_data<K: Keeper>(
 ) -> Result<Step, ClientFault>
     requires rising { IsRising after.0 ops }
     requires within { newest ops ≤ greatest }
-    ensures taken { Takes (data_taken (kept log.old) table bucket after ops) (kept log.old) (kept log.new) result }
+    ensures taken { MakesStep (data_taken (kept log.old) table bucket after ops) (kept log.old) (kept log.new) result }
     ensures follows { Follows (K.held (keeper_of log.old)) (K.held (keeper_of log.new)) (kept log.new) }
     ensures failed { RoseWhereFaulted result (K.faults (keeper_of log.old)) (K.faults (keeper_of log.new)) }
     ensures faults { K.faults (keeper_of log.old) ≤ K.faults (keeper_of log.new) }
     ensures quiet { OnOk result (K.faults (keeper_of log.new) ≡ K.faults (keeper_of log.old)) }
     ensures commits { FaultsOnlyWhere (Commits (Unit {0}) (data_taken (kept log.old) table bucket after ops).answer) result }
 {
-    let _target = log.target();
+    note_kept(log);
     if !comes_next(log, &table, &bucket, after, ops.as_slice()) {
         return Err(ClientFault::OutOfOrder);
     }
@@ -245,13 +246,13 @@ fn refuse<K: Keeper>(
     log: &mut ClientLog<K>,
     buckets: Items<Differing>,
 ) -> Result<Step, ClientFault>
-    ensures taken { Takes (refused_for buckets (kept log.old)) (kept log.old) (kept log.new) result }
+    ensures taken { MakesStep (refused_for buckets (kept log.old)) (kept log.old) (kept log.new) result }
     ensures follows { Follows (K.held (keeper_of log.old)) (K.held (keeper_of log.new)) (kept log.new) }
     ensures failed { RoseWhereFaulted result (K.faults (keeper_of log.old)) (K.faults (keeper_of log.new)) }
     ensures faults { K.faults (keeper_of log.old) ≤ K.faults (keeper_of log.new) }
     ensures quiet { OnOk result (K.faults (keeper_of log.new) ≡ K.faults (keeper_of log.old)) }
 {
-    let _target = log.target();
+    note_kept(log);
     let names = names_of(alloc, buckets.as_slice())?;
     delete_all(alloc, log, names)?;
     Ok(Step {
@@ -292,8 +293,8 @@ fn show_held<K: Keeper>(alloc: Global, log: &mut ClientLog<K>) -> Result<(), Kee
     ensures faults { K.faults (keeper_of log.old) ≤ K.faults (keeper_of log.new) }
     ensures quiet { OnOk result (K.faults (keeper_of log.new) ≡ K.faults (keeper_of log.old)) }
 {
-    edits_leave_what_is_sound();
-    let _target = log.target();
+    ps_client_log::laws::edits_leave_what_is_sound();
+    note_kept(log);
     let rows = log.held_rows(alloc)?;
     let rows = Items::from_vec(rows);
     let target = Target::Free;
@@ -307,14 +308,14 @@ fn settle<K: Keeper>(
     log: &mut ClientLog<K>,
     table: Table,
 ) -> Result<Step, ClientFault>
-    ensures taken { Takes (applied_by (held_for (kept log.old).queue (kept log.old).target (unwrap_or table.number 0)) (kept log.old) table) (kept log.old) (kept log.new) result }
+    ensures taken { MakesStep (applied_by (held_for (kept log.old).queue (kept log.old).target (unwrap_or table.number 0)) (kept log.old) table) (kept log.old) (kept log.new) result }
     ensures follows { Follows (K.held (keeper_of log.old)) (K.held (keeper_of log.new)) (kept log.new) }
     ensures failed { RoseWhereFaulted result (K.faults (keeper_of log.old)) (K.faults (keeper_of log.new)) }
     ensures faults { K.faults (keeper_of log.old) ≤ K.faults (keeper_of log.new) }
     ensures quiet { OnOk result (K.faults (keeper_of log.new) ≡ K.faults (keeper_of log.old)) }
     ensures commits { FaultsOnlyWhere (Commits ⊥ (applied_by (held_for (kept log.old).queue (kept log.old).target (unwrap_or table.number 0)) (kept log.old) table).answer) result }
 {
-    let _target = log.target();
+    note_kept(log);
     if let Some(why) = held_by(log, table.number) {
         return Ok(Step {
             event: Event::Held { why },
@@ -335,14 +336,14 @@ fn take_complete<K: Keeper>(
     table: Table,
     last_op: OpId,
 ) -> Result<Step, ClientFault>
-    ensures taken { Takes (complete_taken (kept log.old) table last_op) (kept log.old) (kept log.new) result }
+    ensures taken { MakesStep (complete_taken (kept log.old) table last_op) (kept log.old) (kept log.new) result }
     ensures follows { Follows (K.held (keeper_of log.old)) (K.held (keeper_of log.new)) (kept log.new) }
     ensures failed { RoseWhereFaulted result (K.faults (keeper_of log.old)) (K.faults (keeper_of log.new)) }
     ensures faults { K.faults (keeper_of log.old) ≤ K.faults (keeper_of log.new) }
     ensures quiet { OnOk result (K.faults (keeper_of log.new) ≡ K.faults (keeper_of log.old)) }
     ensures commits { FaultsOnlyWhere (Commits ⊥ (complete_taken (kept log.old) table last_op).answer) result }
 {
-    let _target = log.target();
+    note_kept(log);
     if last_op.0 != table.last_op.0 {
         return Err(ClientFault::OutOfOrder);
     }
@@ -360,14 +361,14 @@ fn take_first<K: Keeper>(
     log: &mut ClientLog<K>,
     line: Line,
 ) -> Result<Step, ClientFault>
-    ensures taken { Takes (first_taken (kept log.old) line) (kept log.old) (kept log.new) result }
+    ensures taken { MakesStep (first_taken (kept log.old) line) (kept log.old) (kept log.new) result }
     ensures follows { Follows (K.held (keeper_of log.old)) (K.held (keeper_of log.new)) (kept log.new) }
     ensures failed { RoseWhereFaulted result (K.faults (keeper_of log.old)) (K.faults (keeper_of log.new)) }
     ensures faults { K.faults (keeper_of log.old) ≤ K.faults (keeper_of log.new) }
     ensures quiet { OnOk result (K.faults (keeper_of log.new) ≡ K.faults (keeper_of log.old)) }
     ensures commits { FaultsOnlyWhere (Commits (Edits (kept log.old) line) (first_taken (kept log.old) line).answer) result }
 {
-    let _target = log.target();
+    note_kept(log);
     match line {
         Line::Checkpoint {
             last_op,
@@ -393,14 +394,14 @@ fn take_next<K: Keeper>(
     line: Line,
 ) -> Result<Step, ClientFault>
     requires { IsInOrder line }
-    ensures taken { Takes (next_taken (kept log.old) table line) (kept log.old) (kept log.new) result }
+    ensures taken { MakesStep (next_taken (kept log.old) table line) (kept log.old) (kept log.new) result }
     ensures follows { Follows (K.held (keeper_of log.old)) (K.held (keeper_of log.new)) (kept log.new) }
     ensures failed { RoseWhereFaulted result (K.faults (keeper_of log.old)) (K.faults (keeper_of log.new)) }
     ensures faults { K.faults (keeper_of log.old) ≤ K.faults (keeper_of log.new) }
     ensures quiet { OnOk result (K.faults (keeper_of log.new) ≡ K.faults (keeper_of log.old)) }
     ensures commits { FaultsOnlyWhere (Commits (Edits (kept log.old) line) (next_taken (kept log.old) table line).answer) result }
 {
-    let _target = log.target();
+    note_kept(log);
     match line {
         Line::Checkpoint {
             last_op,
@@ -437,14 +438,14 @@ pub fn take<K: Keeper>(
     line: Line,
 ) -> Result<Step, ClientFault>
     requires { IsInOrder line }
-    ensures taken { Takes (taken_in stream (kept log.old) line) (kept log.old) (kept log.new) result }
+    ensures taken { MakesStep (taken_in stream (kept log.old) line) (kept log.old) (kept log.new) result }
     ensures follows { Follows (K.held (keeper_of log.old)) (K.held (keeper_of log.new)) (kept log.new) }
     ensures failed { RoseWhereFaulted result (K.faults (keeper_of log.old)) (K.faults (keeper_of log.new)) }
     ensures faults { K.faults (keeper_of log.old) ≤ K.faults (keeper_of log.new) }
     ensures quiet { OnOk result (K.faults (keeper_of log.new) ≡ K.faults (keeper_of log.old)) }
     ensures commits { FaultsOnlyWhere (Commits (Edits (kept log.old) line) (taken_in stream (kept log.old) line).answer) result }
 {
-    let _target = log.target();
+    note_kept(log);
     match stream {
         Stream::Over => Err(ClientFault::OutOfOrder),
         Stream::Asked => take_first(alloc, log, line),

@@ -4,7 +4,7 @@ ghost use Rattle.std.specs.Prelude.{◌≡◌, IsTrue, IfOk};
 ghost use Rattle.sqlite.specs.State.{HasCleanDisk};
 ghost use Rattle.sqlite.specs.Files.{file_state};
 ghost use Rattle.sqlite.specs.WalFiles.{image_at};
-ghost use Rattle.ps_client_sqlite.specs.Keeping.{connection_of, state_of, writes_of, faults_of, Stands};
+ghost use Rattle.ps_client_sqlite.specs.Keeping.{connection_of, keeper_state, writes_of, faults_of, StateStands};
 ghost use Rattle.ps_client_file.specs.Opening.{IsFoundIn};
 
 use ps_client_log::Hashing;
@@ -24,9 +24,9 @@ pub fn open_store<S: Start>(
     start: S,
     hashing: Hashing,
 ) -> Result<FileKeeper<S>, StoreFault>
-    ensures stands { IfOk result (λ keeper. Stands (state_of keeper) (writes_of keeper) (file_state (connection_of keeper))) }
+    ensures stands { IfOk result (λ keeper. StateStands (keeper_state keeper) (writes_of keeper) (file_state (connection_of keeper))) }
     ensures found { IfOk result (λ keeper. HasCleanDisk (file_state (connection_of keeper)) → IsTrue (file_state (connection_of keeper)).is_open
-        → IsFoundIn (image_at S.Start) (state_of keeper) (writes_of keeper)) }
+        → IsFoundIn (image_at S.Start) (keeper_state keeper) (writes_of keeper)) }
     ensures uncounted { IfOk result (λ keeper. faults_of keeper ≡ 0) }
 {
     match Connection::open_from(rt, name.as_str(), false, start) {

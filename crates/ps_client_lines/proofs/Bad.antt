@@ -29,7 +29,7 @@ use Rattle.ps_client_lines.specs.declared.faults.Refusal.TheVariants as refusals
 use Rattle.ps_client_lines.specs.declared.lines.BucketLine.{BucketLine}
 use Rattle.ps_client_lines.specs.declared.lines.Queued.{Queued}
 use Rattle.ps_client_lines.specs.Rows.{Row, bucket_row, entry_row, queued_row, shown_row}
-use Rattle.ps_client_lines.specs.Refusing.{OnBad, IsEntryRow, IsLoneEntryRow, IsKeyColumns, IsHeldColumns, HasOther, HasTwins, HasFall, HasBadEntry, AreInOrder, BeginsApart}
+use Rattle.ps_client_lines.specs.Refusing.{OnBad, IsEntryRow, IsLoneEntryRow, IsKeyColumns, IsHeldColumns, HasOther, HasTwins, HasFall, HasBadEntry, StandInOrder, BeginsApart}
 
 -- what follows where rows are refused for what they have
 pub bad_then : {P Q : Type 0} (refusal : Refusal) → (P → Q) → OnBad P refusal → OnBad Q refusal
@@ -204,7 +204,7 @@ apart_here text (row ∷ rest) h = h row rest refl
 
 -- two names, one before the other
 module _ (lines : List BucketLine) (i j : ℕ) (a b : BucketLine) (before : i < j) (inside : j < length lines) (first : get_or lines i a ≡ a) (second : get_or lines j b ≡ b) where
-  names_up : AreInOrder (map bucket_row lines) → slice_cmp nat_cmp a.name b.name ≢ Greater
+  names_up : StandInOrder (map bucket_row lines) → slice_cmp nat_cmp a.name b.name ≢ Greater
   names_up order =
       let rows = map bucket_row lines in
       let one : get_or rows i [] ≡ bucket_row a = get_or-map bucket_row lines i a [] (omega arith) ∙ ap bucket_row first in
@@ -221,7 +221,7 @@ module _ (lines : List BucketLine) (i j : ℕ) (a b : BucketLine) (before : i < 
       ∙ apart_from_distinct bytes_eq names i j [] distinct before (subst (λ n. j < n) (sym (length-map lines name)) inside)
 
 -- the row behind those of a bucket does not begin with a name before its own
-past_it : (rows : List Row) (start : ℕ) (own : BucketLine) (name : List ℕ) (first : Held) (held : List Held) → AreInOrder rows → bytes_eq own.name name ≡ false → slice_cmp nat_cmp own.name name ≢ Greater
+past_it : (rows : List Row) (start : ℕ) (own : BucketLine) (name : List ℕ) (first : Held) (held : List Held) → StandInOrder rows → bytes_eq own.name name ≡ false → slice_cmp nat_cmp own.name name ≢ Greater
     → map (entry_row name) (first ∷ held) ≡ take (length (first ∷ held)) (drop start rows) → (row : Row) (others : List Row) → drop (start + length (first ∷ held)) rows ≡ row ∷ others → (more : Row) → row ≢ Text own.name ∷ more
 past_it rows start own name first held order apart up passed row others is more same =
     let all = first ∷ held in
@@ -238,7 +238,7 @@ past_it rows start own name first held order apart up passed row others is more 
 
 -- once the rows of one more bucket are passed, the next row is of none of those before it
 pub apart_more : (lines done left : List BucketLine) (line : BucketLine) (rows : List Row) (start : ℕ) (held : List Held) → lines ≡ done ++ line ∷ left
-    → IsDistinct bytes_eq (map (λ l. l.name) lines) → AreInOrder (map bucket_row lines) → AreInOrder rows
+    → IsDistinct bytes_eq (map (λ l. l.name) lines) → StandInOrder (map bucket_row lines) → StandInOrder rows
     → map (entry_row line.name) held ≡ take (length held) (drop start rows) → BeginsApart line.name (drop (length held) (drop start rows))
     → All (λ l. BeginsApart l.name (drop start rows)) done → All (λ l. BeginsApart l.name (drop (start + length held) rows)) (done ++ line ∷ [])
 apart_more lines done left line rows start held all distinct names order passed ends before =

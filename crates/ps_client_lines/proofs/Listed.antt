@@ -19,12 +19,12 @@ use Rattle.ps_client_log.specs.declared.states.BucketState.{BucketState}
 use Rattle.ps_client_log.specs.declared.states.Held.{Held}
 use Rattle.ps_client_log.specs.declared.states.State.{State}
 use Rattle.ps_client_log.specs.Images.{key_eq}
-use Rattle.ps_client_log.specs.Kept.{put_of, held_in, bucket_in, bucket_kept, kept_of, shown_in}
+use Rattle.ps_client_log.specs.Kept.{put_of, held_in, bucket_named, bucket_kept, kept_of, shown_in}
 use Rattle.ps_client_log.proofs.Keys.{same_key-true, key_eq-same, key_eq-same_key}
 use Rattle.ps_client_lines.specs.declared.images.Entry.{Entry}
 use Rattle.ps_client_lines.specs.declared.images.Image.{Image}
 use Rattle.ps_client_lines.specs.declared.drafts.Draft.{Draft}
-use Rattle.ps_client_lines.specs.Images.{held_of, image_kept, image_at, state_of, draft_kept}
+use Rattle.ps_client_lines.specs.Images.{held_of, image_kept, image_at, state_of_bucket, draft_kept}
 
 -- what a list gives under a key is what a map of its pairs has there: `test` tells whether a pair is of the key
 module _ {K X B : Type 0} (same : K → K → Bool) (key : K) (test : K → Bool) (give : K → X → B) where
@@ -137,17 +137,17 @@ put_next all pairs new key entry more distinct so_far is =
 
 -- ---- buckets
 
-pub states-found : (name : List ℕ) (pairs : List (List ℕ × Image)) → IsDistinct bytes_eq (keys_of pairs) → bucket_in (map state_of pairs) name ≡ option_map image_kept (lookup (bytes_eq name) pairs)
+pub states-found : (name : List ℕ) (pairs : List (List ℕ × Image)) → IsDistinct bytes_eq (keys_of pairs) → bucket_named (map state_of_bucket pairs) name ≡ option_map image_kept (lookup (bytes_eq name) pairs)
 states-found name pairs distinct =
-    folded state_of (λ (found : Option Bucket) (bucket : BucketState). cond (bytes_eq bucket.name name) (Some (bucket_kept bucket)) found) None pairs
+    folded state_of_bucket (λ (found : Option Bucket) (bucket : BucketState). cond (bytes_eq bucket.name name) (Some (bucket_kept bucket)) found) None pairs
     ∙ found_is bytes_eq name (λ k. bytes_eq k name) (λ k image. image_kept image) (λ k. nat_list_eq_equiv.symm k name) (λ k is. (bytes_eq-Decides name k).0 is) pairs distinct
 
-pub states-names : (pairs : List (List ℕ × Image)) → map (λ (bucket : BucketState). bucket.name) (map state_of pairs) ≡ keys_of pairs
+pub states-names : (pairs : List (List ℕ × Image)) → map (λ (bucket : BucketState). bucket.name) (map state_of_bucket pairs) ≡ keys_of pairs
 states-names [] = refl
 states-names (pair ∷ pairs) = ap (λ names. pair.0 ∷ names) (states-names pairs)
 
 -- a state and a draft that hold the same keep the same
-pub same_kept : (state : State) (draft : Draft) → ((name : List ℕ) → bucket_in state.buckets name ≡ image_at draft.images name) → state.queue ≡ draft.queue.items → state.target ≡ draft.target
+pub same_kept : (state : State) (draft : Draft) → ((name : List ℕ) → bucket_named state.buckets name ≡ image_at draft.images name) → state.queue ≡ draft.queue.items → state.target ≡ draft.target
     → state.shown ≡ draft.shown → kept_of state ≡ draft_kept draft
 same_kept state draft buckets queue target shown = λ i. record {
   bucket = λ name. buckets name i;

@@ -13,7 +13,7 @@ use Rattle.ps_client_log.specs.Kept.{put_of, bucket_kept}
 use Rattle.ps_client_log.specs.Soundness.{IsSoundBucket, IsSoundState, IsSoundTarget, same_row}
 use Rattle.ps_client_lines.specs.declared.lines.Queued.{Queued}
 use Rattle.ps_client_lines.specs.declared.lines.BucketLine.{BucketLine}
-use Rattle.ps_client_lines.specs.Rows.{line_of}
+use Rattle.ps_client_lines.specs.Rows.{line_of_bucket}
 use Rattle.ps_client_lines.proofs.Listing.{map_twice}
 use Rattle.ps_client_lines.specs.Holding.{AreSoundBuckets}
 
@@ -60,17 +60,17 @@ sound_state state writes buckets queue texts target shown = record {
   shown = shown;
 }
 
-each_mapped : (P : BucketLine → Type 0) (states : List BucketState) → AllByRecursion P (map line_of states) → AllByRecursion (λ state. P (line_of state)) states
+each_mapped : (P : BucketLine → Type 0) (states : List BucketState) → AllByRecursion P (map line_of_bucket states) → AllByRecursion (λ state. P (line_of_bucket state)) states
 each_mapped P [] h = tt
 each_mapped P (state ∷ states) h = (h.0, each_mapped P states h.1)
 
 -- buckets of lines that are sound, whose entries are, are sound
-pub sound_buckets : (states : List BucketState) (lines : List BucketLine) → map line_of states ≡ lines → All (λ line. line.position.0 ≤ greatest) lines → IsDistinct bytes_eq (map (λ line. line.name) lines)
+pub sound_buckets : (states : List BucketState) (lines : List BucketLine) → map line_of_bucket states ≡ lines → All (λ line. line.position.0 ≤ greatest) lines → IsDistinct bytes_eq (map (λ line. line.name) lines)
     → All (λ state. All (λ held. held.id.0 ≤ greatest) state.held) states → All (λ state. IsDistinct same_key (map (λ held. held.key) state.held)) states → AreSoundBuckets states
 sound_buckets states lines same positions names ids keys = record {
   positions = All-from_recursion (λ (state : BucketState). state.position.0 ≤ greatest) states (each_mapped (λ line. line.position.0 ≤ greatest) states
-      (recursion_from_All (λ (line : BucketLine). line.position.0 ≤ greatest) (map line_of states) (subst (λ (ls : List BucketLine). All (λ line. line.position.0 ≤ greatest) ls) (sym same) positions)));
+      (recursion_from_All (λ (line : BucketLine). line.position.0 ≤ greatest) (map line_of_bucket states) (subst (λ (ls : List BucketLine). All (λ line. line.position.0 ≤ greatest) ls) (sym same) positions)));
   ids = ids;
-  names = subst (IsDistinct bytes_eq) (sym (map_twice line_of (λ line. line.name) states)) (subst (λ (ls : List BucketLine). IsDistinct bytes_eq (map (λ line. line.name) ls)) (sym same) names);
+  names = subst (IsDistinct bytes_eq) (sym (map_twice line_of_bucket (λ line. line.name) states)) (subst (λ (ls : List BucketLine). IsDistinct bytes_eq (map (λ line. line.name) ls)) (sym same) names);
   keys = keys;
 }

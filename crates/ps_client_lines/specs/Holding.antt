@@ -15,13 +15,13 @@ use Rattle.ps_client_lines.specs.declared.rows.Rows.{Rows}
 use Rattle.ps_client_lines.specs.Rows.{Row, bucket_rows, entry_rows, queue_rows, aim_row, shown_rows}
 
 -- the text of a local write is the change's own, or one that is read as it
-abbrev pub IsTextOf : Queued → Type 0
-IsTextOf line = (line.text ≡ change_text line.change) ⊎ IsLongChange line.text line.change
+abbrev pub TextIsItsChange : Queued → Type 0
+TextIsItsChange line = (line.text ≡ change_text line.change) ⊎ IsLongChange line.text line.change
 
 -- these are the local writes, each with its number and its text
 pub record AreQueued (writes : List Queued) (waiting : List Change) : Type 0 where
   pub changes : map (λ line. line.change) writes ≡ waiting
-  pub texts : All IsTextOf writes
+  pub texts : All TextIsItsChange writes
 
 -- the target has its row, or none where it is free
 abbrev pub AreAimRows : Target → List Row → Type 0

@@ -12,8 +12,8 @@ use Rattle.ps_client_lines.specs.declared.images.Image.{Image}
 use Rattle.ps_client_lines.specs.declared.drafts.Draft.{Draft}
 
 -- the sum of an entry that left, 0 where none did
-abbrev pub left_of : Option Entry → ℕ
-left_of left = option_map_or (λ entry. entry.sum.0) left 0
+abbrev pub sum_left : Option Entry → ℕ
+sum_left left = option_map_or (λ entry. entry.sum.0) left 0
 
 -- an entry as a state lists it
 abbrev pub held_of : Key × Entry → Held
@@ -24,8 +24,8 @@ abbrev pub image_kept : Image → Bucket
 image_kept image = told_by image.position.0 image.added.0 (map held_of image.held.entries)
 
 -- a bucket's state
-abbrev pub state_of : List ℕ × Image → BucketState
-state_of pair = record { name = pair.0; position = pair.1.position; added = pair.1.added; held = map held_of pair.1.held.entries }
+abbrev pub state_of_bucket : List ℕ × Image → BucketState
+state_of_bucket pair = record { name = pair.0; position = pair.1.position; added = pair.1.added; held = map held_of pair.1.held.entries }
 
 -- the bucket of a name
 abbrev pub image_at : {S : Type 0} → IndexMap (List ℕ) Image S → List ℕ → Option Bucket

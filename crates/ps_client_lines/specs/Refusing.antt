@@ -105,8 +105,8 @@ HasBadShown rows = HasOther IsShownRow rows ⊎ HasTwins 2 rows
 abbrev pub StandsBefore : Row → Row → Type 0
 StandsBefore a b = (first : List ℕ) (second : List ℕ) (x : Row) (y : Row) → a ≡ Text first ∷ x → b ≡ Text second ∷ y → slice_cmp nat_cmp first second ≢ Greater
 
-abbrev pub AreInOrder : List Row → Type 0
-AreInOrder rows = AllPairs StandsBefore rows
+abbrev pub StandInOrder : List Row → Type 0
+StandInOrder rows = AllPairs StandsBefore rows
 
 -- the first of the rows, where there is one, does not begin with this text
 abbrev pub BeginsApart : List ℕ → List Row → Type 0
@@ -133,7 +133,7 @@ AreOfTarget rows = (target : Target) × AreAimRows target rows.aim × IsSoundTar
 abbrev pub BlamesBuckets : Rows → RowsFault → Type 0
 BlamesBuckets rows (BadState table) =
     ((table ≡ 1) × HasBadBucket rows.buckets)
-    ⊎ ((table ≡ 2) × AreOfBuckets rows × (AreInOrder rows.buckets → AreInOrder rows.entries → HasBadEntry rows.buckets rows.entries))
+    ⊎ ((table ≡ 2) × AreOfBuckets rows × (StandInOrder rows.buckets → StandInOrder rows.entries → HasBadEntry rows.buckets rows.entries))
 BlamesBuckets rows Memory = Unit {0}
 
 -- of the third

@@ -18,8 +18,8 @@ Row = List Cell
 abbrev pub bucket_row : BucketLine → Row
 bucket_row line = Text line.name ∷ Int (pos line.position.0) ∷ Int (pos line.added.0) ∷ []
 
-abbrev pub line_of : BucketState → BucketLine
-line_of bucket = record { name = bucket.name; position = bucket.position; added = bucket.added }
+abbrev pub line_of_bucket : BucketState → BucketLine
+line_of_bucket bucket = record { name = bucket.name; position = bucket.position; added = bucket.added }
 
 -- an entry: its bucket, the three parts of its key, the PUT's id, the data, the checksum
 abbrev pub entry_row : List ℕ → Held → Row
@@ -43,7 +43,7 @@ shown_row row = Text row.kind ∷ Text row.id ∷ Text row.content ∷ []
 -- ---- the rows of each table
 
 abbrev pub bucket_rows : List BucketState → List Row
-bucket_rows buckets = map (λ bucket. bucket_row (line_of bucket)) buckets
+bucket_rows buckets = map (λ bucket. bucket_row (line_of_bucket bucket)) buckets
 
 abbrev pub held_rows : BucketState → List Row
 held_rows bucket = map (entry_row bucket.name) bucket.held

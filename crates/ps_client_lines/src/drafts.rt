@@ -3,8 +3,8 @@
 ghost use Rattle.std.specs.Prelude.{◌≡◌, ◌≢◌, ℕ, List, [], ◌∷◌, Some, None, drop, fold, map, unwrap_or, bytes_eq, if◌then◌else◌, IfOk, OnOk};
 ghost use Rattle.std.specs.List.{All, IsDistinct};
 ghost use Rattle.ps_bucket_log.specs.Ops.{same_key};
-ghost use Rattle.ps_bucket_log.specs.Buckets.{after, fresh};
-ghost use Rattle.ps_client_log.specs.Kept.{bucket_in, kept_of};
+ghost use Rattle.ps_bucket_log.specs.Buckets.{after, fresh_bucket};
+ghost use Rattle.ps_client_log.specs.Kept.{bucket_named, kept_of};
 ghost use Rattle.ps_client_log.specs.Edits.{CanMake, CanMakeAll, with_edit, with_edits};
 ghost use Rattle.ps_client_log.specs.Soundness.{IsSoundState, same_row};
 ghost use Rattle.ps_client_lines.specs.Images.{image_at, draft_kept};
@@ -33,7 +33,7 @@ fn images_of(
     states: Items<BucketState>,
 ) -> Result<IndexMap<Text, Image, Hashing>, Memory>
     requires { All (λ bucket. IsDistinct same_key (map (λ one. one.key) bucket.held)) states }
-    ensures { IfOk result (λ images. (name : List ℕ) → image_at images name ≡ bucket_in states name) }
+    ensures { IfOk result (λ images. (name : List ℕ) → image_at images name ≡ bucket_named states name) }
 {
     let mut images = IndexMap::with_hasher(alloc, hashing);
     'states: for state in states.into_vec() {
@@ -57,7 +57,7 @@ fn take_in(
     ops: &[Op],
 ) -> Result<(), Memory>
     ensures { OnOk result ((other : List ℕ) → image_at images.new other
-        ≡ (if bytes_eq name.now other then Some (fold after (unwrap_or (image_at images.old name.now) fresh) ops.now) else image_at images.old other)) }
+        ≡ (if bytes_eq name.now other then Some (fold after (unwrap_or (image_at images.old name.now) fresh_bucket) ops.now) else image_at images.old other)) }
 {
     if let Some(image) = images.get_mut(name) {
         return image.take_all(alloc, ops);
@@ -73,7 +73,7 @@ fn states_of(
     alloc: Global,
     images: IndexMap<Text, Image, Hashing>,
 ) -> Result<Items<BucketState>, Memory>
-    ensures kept { IfOk result (λ states. (name : List ℕ) → bucket_in states name ≡ image_at images name) }
+    ensures kept { IfOk result (λ states. (name : List ℕ) → bucket_named states name ≡ image_at images name) }
     ensures names { IfOk result (λ states. IsDistinct bytes_eq (map (λ bucket. bucket.name) states)) }
     ensures keys { IfOk result (λ states. All (λ bucket. IsDistinct same_key (map (λ one. one.key) bucket.held)) states) }
 {

@@ -3,9 +3,9 @@
 ghost use Rattle.std.specs.Prelude.{◌≡◌, fold, map, IfOk, OnOk};
 ghost use Rattle.std.specs.List.{IsDistinct};
 ghost use Rattle.ps_bucket_log.specs.Ops.{same_key};
-ghost use Rattle.ps_bucket_log.specs.Buckets.{after, fresh};
+ghost use Rattle.ps_bucket_log.specs.Buckets.{after, fresh_bucket};
 ghost use Rattle.ps_client_log.specs.Kept.{told_by};
-ghost use Rattle.ps_client_lines.specs.Images.{held_of, image_kept, left_of, state_of};
+ghost use Rattle.ps_client_lines.specs.Images.{held_of, image_kept, sum_left, state_of_bucket};
 
 use indexmap::IndexMap;
 use ps_bucket_log::{Key, Op};
@@ -32,7 +32,7 @@ pub struct Image {
 
 // The sum of an entry that left; 0 where none did.
 fn left_sum(left: Option<Entry>) -> Sum
-    ensures { result.0 ≡ left_of left }
+    ensures { result.0 ≡ sum_left left }
 {
     match left {
         Some(entry) => entry.sum,
@@ -43,7 +43,7 @@ fn left_sum(left: Option<Entry>) -> Sum
 impl Image {
     // A bucket that took nothing.
     pub fn new(alloc: Global, hashing: Hashing) -> Image
-        ensures { image_kept result ≡ fresh }
+        ensures { image_kept result ≡ fresh_bucket }
     {
         Image {
             position: OpId(0),
@@ -184,7 +184,7 @@ fn listed(alloc: Global, held: IndexMap<Key, Entry, Hashing>) -> Result<Items<He
 
 // The state of a bucket.
 pub fn bucket_state(alloc: Global, name: Text, image: Image) -> Result<BucketState, Memory>
-    ensures state { IfOk result (λ state. state ≡ state_of (name, image)) }
+    ensures state { IfOk result (λ state. state ≡ state_of_bucket (name, image)) }
     ensures keys { IfOk result (λ state. IsDistinct same_key (map (λ one. one.key) state.held)) }
 {
     let _entries = image.held.as_slice();

@@ -6,10 +6,10 @@ ghost use Rattle.ps_data.specs.Numbers.{greatest};
 ghost use Rattle.ps_bucket_log.specs.Ops.{same_key};
 ghost use Rattle.ps_changes.specs.LongLines.{IsLongChange};
 ghost use Rattle.ps_client_log.specs.Soundness.{IsSoundTarget, same_row};
-ghost use Rattle.ps_client_lines.specs.Rows.{bucket_row, line_of, entry_row, entry_rows, queue_rows, shown_rows};
+ghost use Rattle.ps_client_lines.specs.Rows.{bucket_row, line_of_bucket, entry_row, entry_rows, queue_rows, shown_rows};
 ghost use Rattle.ps_client_lines.specs.Holding.{AreAimRows, AreRising};
 ghost use Rattle.ps_client_lines.specs.declared.lines.Queued.{Queued as QueuedData};
-ghost use Rattle.ps_client_lines.specs.Refusing.{OnBad, IsLoneEntryRow, HasOther, HasTwins, HasBadBucket, HasBadEntry, HasBadWrite, HasBadAim, HasBadShown, AreInOrder, BeginsApart};
+ghost use Rattle.ps_client_lines.specs.Refusing.{OnBad, IsLoneEntryRow, HasOther, HasTwins, HasBadBucket, HasBadEntry, HasBadWrite, HasBadAim, HasBadShown, StandInOrder, BeginsApart};
 
 use crate::faults::Refusal;
 use crate::reading::{bucket_in, entry_in, queued_in, shown_in, target_in};
@@ -75,11 +75,11 @@ pub fn bucket_states(
     lines: Vec<BucketLine>,
     rows: &[Items<Cell>],
 ) -> Result<Items<BucketState>, Refusal>
-    ensures lines { IfOk result (λ states. map line_of states ≡ lines.items) }
+    ensures lines { IfOk result (λ states. map line_of_bucket states ≡ lines.items) }
     ensures rows { IfOk result (λ states. entry_rows states ≡ rows.now) }
     ensures ids { IfOk result (λ states. All (λ state. All (λ one. one.id.0 ≤ greatest) state.held) states) }
     ensures keys { IfOk result (λ states. All (λ state. IsDistinct same_key (map (λ one. one.key) state.held)) states) }
-    ensures bad { IfErr result (OnBad (IsDistinct bytes_eq (map (λ line. line.name) lines.items) → AreInOrder (map bucket_row lines.items) → AreInOrder rows.now
+    ensures bad { IfErr result (OnBad (IsDistinct bytes_eq (map (λ line. line.name) lines.items) → StandInOrder (map bucket_row lines.items) → StandInOrder rows.now
         → HasBadEntry (map bucket_row lines.items) rows.now)) }
 {
     let mut states = Items::new(alloc);

@@ -16,7 +16,7 @@ use Rattle.std.proofs.lemmas.Map.Keys.{IsDistinct-head, IsDistinct-tail}
 use Rattle.std.proofs.lemmas.Slice.Eq.{bytes_eq-Decides}
 use Rattle.ps_bucket_log.specs.declared.ops.Key.{Key}
 use Rattle.ps_bucket_log.specs.declared.ops.Op.{Op}
-use Rattle.ps_bucket_log.specs.Buckets.{Bucket, fresh}
+use Rattle.ps_bucket_log.specs.Buckets.{Bucket, fresh_bucket}
 use Rattle.ps_rows.specs.declared.shown.Shown.{Shown}
 use Rattle.ps_rows.specs.Source.{Key as Object, key_cmp}
 use Rattle.ps_rows.specs.Keys.{keys_total, keys_exact}
@@ -28,9 +28,9 @@ use Rattle.ps_client_log.specs.declared.slots.Slot.{Slot}
 use Rattle.ps_client_log.specs.Images.{key_eq, put_at, image_of, slot_bucket}
 use Rattle.ps_client_log.specs.Kept.{Kept, bucket_at}
 use Rattle.ps_client_log.specs.Rooms.{kept_by}
-use Rattle.ps_client_log.specs.Rows.{HeldCopy, Holds, object_of, place_of, IsLatestContent, by_object, AreInOrder, row_at}
+use Rattle.ps_client_log.specs.Rows.{HeldCopy, BucketHolds, object_of, copy_place, IsLatestContent, by_object, AreInOrder, shown_at}
 use Rattle.ps_client_log.specs.Soundness.{same_row}
-use Rattle.ps_client_log.specs.Seeing.{copy_of, copies_in, copies_at, copies_of, HoldsKeysOnce, Note, note_of, all_seen, is_there}
+use Rattle.ps_client_log.specs.Seeing.{held_copy, copies_in, copies_at, copies_of, HoldsKeysOnce, Note, note_of, all_seen, is_there}
 use Rattle.ps_client_log.specs.Lending.{LentObject, object_at, lent_cmp, note_at, noted, row_noted}
 use Rattle.ps_client_log.proofs.Keys.{key_eq-same, key_eq-same_key, same_key-true}
 use Rattle.ps_client_log.proofs.Latest.{Reaches, reaches_each, kept_all}
@@ -83,43 +83,43 @@ module _ (holdings : Holdings) where
   abbrev all_slots : List (List ℕ × Slot)
   all_slots = holdings.buckets.slots.entries
 
-  at_slot : (name : List ℕ) (slot : Slot) → lookup (bytes_eq name) all_slots ≡ Some slot → bucket_at (kept_by holdings) name ≡ unwrap_or (slot_bucket slot) fresh
-  at_slot name slot is = ap (λ o. unwrap_or (option_and_then slot_bucket o) fresh) is
+  at_slot : (name : List ℕ) (slot : Slot) → lookup (bytes_eq name) all_slots ≡ Some slot → bucket_at (kept_by holdings) name ≡ unwrap_or (slot_bucket slot) fresh_bucket
+  at_slot name slot is = ap (λ o. unwrap_or (option_and_then slot_bucket o) fresh_bucket) is
 
   at_image : (name : List ℕ) (slot : Slot) → lookup (bytes_eq name) all_slots ≡ Some slot → slot.there ≡ true → bucket_at (kept_by holdings) name ≡ image_of slot.image
-  at_image name slot is there = at_slot name slot is ∙ ap (λ b. unwrap_or (cond b (Some (image_of slot.image)) None) fresh) there
+  at_image name slot is there = at_slot name slot is ∙ ap (λ b. unwrap_or (cond b (Some (image_of slot.image)) None) fresh_bucket) there
 
   held_in : (name : List ℕ) (image : Image) → bucket_at (kept_by holdings) name ≡ image_of image
-      → (pairs : List (Key × Entry)) → AllByRecursion (λ e. lookup (key_eq e.0) image.held.entries ≡ Some e.1) pairs → AllByRecursion (Holds (kept_by holdings)) (copies_in name pairs)
+      → (pairs : List (Key × Entry)) → AllByRecursion (λ e. lookup (key_eq e.0) image.held.entries ≡ Some e.1) pairs → AllByRecursion (BucketHolds (kept_by holdings)) (copies_in name pairs)
   held_in name image is [] found = tt
   held_in name image is (pair ∷ pairs) found =
       (ap (λ (bucket : Bucket). bucket.held pair.0) is ∙ ap (option_map (put_at pair.0)) found.0, held_in name image is pairs found.1)
 
-  held_at : (pair : List ℕ × Slot) → lookup (bytes_eq pair.0) all_slots ≡ Some pair.1 → HoldsKeysOnce pair → AllByRecursion (Holds (kept_by holdings)) (copies_at pair.0 pair.1)
+  held_at : (pair : List ℕ × Slot) → lookup (bytes_eq pair.0) all_slots ≡ Some pair.1 → HoldsKeysOnce pair → AllByRecursion (BucketHolds (kept_by holdings)) (copies_at pair.0 pair.1)
   held_at pair is once = by pair.1.there refl
     where
-      by : (b : Bool) → pair.1.there ≡ b → AllByRecursion (Holds (kept_by holdings)) (cond b (copies_in pair.0 pair.1.image.held.entries) [])
+      by : (b : Bool) → pair.1.there ≡ b → AllByRecursion (BucketHolds (kept_by holdings)) (cond b (copies_in pair.0 pair.1.image.held.entries) [])
       by true there = held_in pair.0 pair.1.image (at_image pair.0 pair.1 is there) pair.1.image.held.entries (found_each key_laws pair.1.image.held.entries (once there))
       by false gone = tt
 
   held_of : (slots : List (List ℕ × Slot)) → AllByRecursion (λ e. lookup (bytes_eq e.0) all_slots ≡ Some e.1) slots → AllByRecursion HoldsKeysOnce slots
-      → AllByRecursion (Holds (kept_by holdings)) (copies_of slots)
+      → AllByRecursion (BucketHolds (kept_by holdings)) (copies_of slots)
   held_of [] found once = tt
-  held_of (pair ∷ slots) found once = both_all (Holds (kept_by holdings)) (copies_at pair.0 pair.1) (copies_of slots) (held_at pair found.0 once.0) (held_of slots found.1 once.1)
+  held_of (pair ∷ slots) found once = both_all (BucketHolds (kept_by holdings)) (copies_at pair.0 pair.1) (copies_of slots) (held_at pair found.0 once.0) (held_of slots found.1 once.1)
 
 -- ---- each copy that is held is seen
 
 module _ (P : HeldCopy → Type 0) where
-  in_pairs : (name : List ℕ) (pairs : List (Key × Entry)) (key : Key) (entry : Entry) → AllByRecursion P (copies_in name pairs) → lookup (key_eq key) pairs ≡ Some entry → P (copy_of name (key, entry))
+  in_pairs : (name : List ℕ) (pairs : List (Key × Entry)) (key : Key) (entry : Entry) → AllByRecursion P (copies_in name pairs) → lookup (key_eq key) pairs ≡ Some entry → P (held_copy name (key, entry))
   in_pairs name [] key entry all is = cc
   in_pairs name (pair ∷ pairs) key entry all is = by (key_eq key pair.0) refl (in_pairs name pairs key entry all.1) is
     where
-      by : (b : Bool) → key_eq key pair.0 ≡ b → (lookup (key_eq key) pairs ≡ Some entry → P (copy_of name (key, entry)))
-          → cond b (Some pair.1) (lookup (key_eq key) pairs) ≡ Some entry → P (copy_of name (key, entry))
+      by : (b : Bool) → key_eq key pair.0 ≡ b → (lookup (key_eq key) pairs ≡ Some entry → P (held_copy name (key, entry)))
+          → cond b (Some pair.1) (lookup (key_eq key) pairs) ≡ Some entry → P (held_copy name (key, entry))
       by true same behind here =
           let keys : pair.0 ≡ key = sym (same_key-true key pair.0 (sym (key_eq-same key pair.0) ∙ same)) in
           let entries : pair.1 ≡ entry = cc in
-          subst (λ (e : Entry). P (copy_of name (key, e))) entries (subst (λ (k : Key). P (copy_of name (k, pair.1))) keys all.0)
+          subst (λ (e : Entry). P (held_copy name (key, e))) entries (subst (λ (k : Key). P (held_copy name (k, pair.1))) keys all.0)
       by false apart behind later = behind later
 
   in_slots : (slots : List (List ℕ × Slot)) (name : List ℕ) (slot : Slot) → AllByRecursion P (copies_of slots) → lookup (bytes_eq name) slots ≡ Some slot → AllByRecursion P (copies_at name slot)
@@ -145,14 +145,14 @@ module _ (P : HeldCopy → Type 0) where
           subst (λ (op : Op). P (record { bucket = copy.bucket; key = copy.key; put = op })) put (in_pairs copy.bucket image.held.entries copy.key entry all found)
 
   in_slot : (copy : HeldCopy) (slot : Slot) (b : Bool) → AllByRecursion P (cond b (copies_in copy.bucket slot.image.held.entries) [])
-      → (unwrap_or (cond b (Some (image_of slot.image)) None) fresh).held copy.key ≡ Some copy.put → P copy
+      → (unwrap_or (cond b (Some (image_of slot.image)) None) fresh_bucket).held copy.key ≡ Some copy.put → P copy
   in_slot copy slot true all is = in_image copy slot.image all is
   in_slot copy slot false all is = cc
 
-  pub in_copies : (holdings : Holdings) → AllByRecursion P (copies_of holdings.buckets.slots.entries) → (copy : HeldCopy) → Holds (kept_by holdings) copy → P copy
+  pub in_copies : (holdings : Holdings) → AllByRecursion P (copies_of holdings.buckets.slots.entries) → (copy : HeldCopy) → BucketHolds (kept_by holdings) copy → P copy
   in_copies holdings all copy is = by (lookup (bytes_eq copy.bucket) holdings.buckets.slots.entries) refl is
     where
-      by : (o : Option Slot) → lookup (bytes_eq copy.bucket) holdings.buckets.slots.entries ≡ o → (unwrap_or (option_and_then slot_bucket o) fresh).held copy.key ≡ Some copy.put → P copy
+      by : (o : Option Slot) → lookup (bytes_eq copy.bucket) holdings.buckets.slots.entries ≡ o → (unwrap_or (option_and_then slot_bucket o) fresh_bucket).held copy.key ≡ Some copy.put → P copy
       by None none here = cc
       by (Some slot) found here = in_slot copy slot slot.there (in_slots holdings.buckets.slots.entries copy.bucket slot all found) here
 
@@ -165,11 +165,11 @@ module _ (holdings : Holdings) (distinct : IsDistinct bytes_eq (keys_of holdings
   abbrev note : Object → Option Note
   note object = all_seen object None (copies_of holdings.buckets.slots.entries)
 
-  all_held : AllByRecursion (Holds kept) (copies_of holdings.buckets.slots.entries)
+  all_held : AllByRecursion (BucketHolds kept) (copies_of holdings.buckets.slots.entries)
   all_held = held_of holdings holdings.buckets.slots.entries (found_each nat_list_eq_equiv holdings.buckets.slots.entries distinct) once
 
   abbrev IsNoteOf : Object → Note → Type 0
-  IsNoteOf object latest = (copy : HeldCopy) × Holds kept copy × (object_of copy ≡ object) × (note_of copy ≡ latest)
+  IsNoteOf object latest = (copy : HeldCopy) × BucketHolds kept copy × (object_of copy ≡ object) × (note_of copy ≡ latest)
 
   same_object : (a b : Object) → eq_by_cmp key_cmp a b ≡ true → a ≡ b
   same_object a b same = keys_exact a b (equal (key_cmp a b) same)
@@ -181,37 +181,37 @@ module _ (holdings : Holdings) (distinct : IsDistinct bytes_eq (keys_of holdings
 
   noted_held : (object : Object) → IfSome (note object) (IsNoteOf object)
   noted_held object = kept_all object (IsNoteOf object) None (copies_of holdings.buckets.slots.entries) tt
-      (weaker_all (Holds kept) (λ copy. eq_by_cmp key_cmp (object_of copy) object ≡ true → IsNoteOf object (note_of copy))
+      (weaker_all (BucketHolds kept) (λ copy. eq_by_cmp key_cmp (object_of copy) object ≡ true → IsNoteOf object (note_of copy))
       (λ copy held same. (copy, held, same_object (object_of copy) object same, refl)) (copies_of holdings.buckets.slots.entries) all_held)
 
   tests_same : (a b : Object) → a ≡ b → eq_by_cmp key_cmp a b ≡ true
   tests_same a b is = ap is_eq (ap (key_cmp a) (sym is) ∙ tied_itself keys_total a)
 
-  pub noted_reaches : (object : Object) (copy : HeldCopy) → Holds kept copy → object_of copy ≡ object → Reaches (note object) (place_of copy)
+  pub noted_reaches : (object : Object) (copy : HeldCopy) → BucketHolds kept copy → object_of copy ≡ object → Reaches (note object) (copy_place copy)
   noted_reaches object copy held is =
-      in_copies (λ one. eq_by_cmp key_cmp (object_of one) object ≡ true → Reaches (note object) (place_of one)) holdings
+      in_copies (λ one. eq_by_cmp key_cmp (object_of one) object ≡ true → Reaches (note object) (copy_place one)) holdings
       (reaches_each object None (copies_of holdings.buckets.slots.entries)) copy held (tests_same (object_of copy) object is)
 
   pub noted_latest : (object : Object) → IfSome (option_map (λ (l : Note). l.content) (note object)) (IsLatestContent kept object)
   noted_latest object = by (note object) (noted_held object) (noted_reaches object)
     where
-      by : (o : Option Note) → IfSome o (IsNoteOf object) → ((copy : HeldCopy) → Holds kept copy → object_of copy ≡ object → Reaches o (place_of copy))
+      by : (o : Option Note) → IfSome o (IsNoteOf object) → ((copy : HeldCopy) → BucketHolds kept copy → object_of copy ≡ object → Reaches o (copy_place copy))
           → IfSome (option_map (λ (l : Note). l.content) o) (IsLatestContent kept object)
       by None note reaches = tt
       by (Some latest) note reaches = (
         note.0,
         record {
           held = note.1;
-          latest = λ other held same. subst (λ (l : Note). Reaches (Some l) (place_of other)) (sym note.3) (reaches other held (same ∙ note.2));
+          latest = λ other held same. subst (λ (l : Note). Reaches (Some l) (copy_place other)) (sym note.3) (reaches other held (same ∙ note.2));
         },
         note.2,
         ap (λ (l : Note). l.content) note.3,
       )
 
-  pub noted_all : (copy : HeldCopy) → Holds kept copy → IsSome (option_map (λ (l : Note). l.content) (note (object_of copy)))
+  pub noted_all : (copy : HeldCopy) → BucketHolds kept copy → IsSome (option_map (λ (l : Note). l.content) (note (object_of copy)))
   noted_all copy held = by (note (object_of copy)) (noted_reaches (object_of copy) copy held refl)
     where
-      by : (o : Option Note) → Reaches o (place_of copy) → IsSome (option_map (λ (l : Note). l.content) o)
+      by : (o : Option Note) → Reaches o (copy_place copy) → IsSome (option_map (λ (l : Note). l.content) o)
       by None reaches = absurd reaches
       by (Some latest) reaches = refl
 
@@ -287,13 +287,13 @@ any_name name (one ∷ names) = λ i. texts_ties name one i || any_name name nam
 module _ (holdings : Holdings) (distinct : IsDistinct bytes_eq (keys_of holdings.buckets.slots.entries)) (once : AllByRecursion HoldsKeysOnce holdings.buckets.slots.entries)
     (latest : BTreeMap LentObject Latest) (seen_all : (object : Object) → noted latest object ≡ all_seen object None (copies_of holdings.buckets.slots.entries))
     (rows : List Shown) (listed : by_object rows ≡ map row_noted latest.entries) where
-  row_found : (object : Object) → row_at object rows ≡ option_map (λ (l : Note). l.content) (all_seen object None (copies_of holdings.buckets.slots.entries))
+  row_found : (object : Object) → shown_at object rows ≡ option_map (λ (l : Note). l.content) (all_seen object None (copies_of holdings.buckets.slots.entries))
   row_found object = ap (find key_cmp object) listed ∙ find_rows object latest.entries ∙ ap (option_map (λ (l : Note). l.content)) (seen_all object)
 
-  pub rows_latest : (object : Object) → IfSome (row_at object rows) (IsLatestContent (kept_by holdings) object)
+  pub rows_latest : (object : Object) → IfSome (shown_at object rows) (IsLatestContent (kept_by holdings) object)
   rows_latest object = subst (λ (o : Option (List ℕ)). IfSome o (IsLatestContent (kept_by holdings) object)) (sym (row_found object)) (noted_latest holdings distinct once object)
 
-  pub rows_all : (copy : HeldCopy) → Holds (kept_by holdings) copy → IsSome (row_at (object_of copy) rows)
+  pub rows_all : (copy : HeldCopy) → BucketHolds (kept_by holdings) copy → IsSome (shown_at (object_of copy) rows)
   rows_all copy held = subst (λ (o : Option (List ℕ)). IsSome o) (sym (row_found (object_of copy))) (noted_all holdings distinct once copy held)
 
 pub rows_in_order : (es : List (LentObject × Latest)) (rows : List Shown) → by_object rows ≡ map row_noted es → IsStrictlySortedBy lent_cmp (keys_of es) → AreInOrder rows

@@ -20,9 +20,9 @@ use Rattle.ps_client_log.specs.declared.states.BucketState.{BucketState}
 use Rattle.ps_client_log.specs.declared.states.Held.{Held}
 use Rattle.ps_client_log.specs.declared.images.Entry.{Entry}
 use Rattle.ps_client_log.specs.declared.slots.Slot.{Slot}
-use Rattle.ps_client_log.specs.Kept.{put_of, held_in, held_sum, bucket_in, bucket_kept}
+use Rattle.ps_client_log.specs.Kept.{put_of, held_in, held_sum, bucket_named, bucket_kept}
 use Rattle.ps_client_log.specs.Images.{key_eq, put_at, slot_bucket}
-use Rattle.ps_client_log.specs.Saving.{held_of, keys_held, names_of, IsBucketOf, Adds}
+use Rattle.ps_client_log.specs.Saving.{held_of, keys_held, state_names, IsBucketOf, AddsBucket}
 use Rattle.ps_client_log.proofs.Keys.{same_key-true, key_eq-same}
 
 -- one more entry is copied
@@ -91,10 +91,10 @@ made_up added part sums total is sum =
 
 -- what was listed of the slots so far, where these are left
 pub record Listing (found : List ℕ → Option Bucket) (states : List BucketState) (left : List (List ℕ × Slot)) : Type 0 where
-  pub kept : (name : List ℕ) → MatchOption (lookup (bytes_eq name) left) (bucket_in states name ≡ found name)
-      (λ slot. (bucket_in states name ≡ None) × (found name ≡ slot_bucket slot))
+  pub kept : (name : List ℕ) → MatchOption (lookup (bytes_eq name) left) (bucket_named states name ≡ found name)
+      (λ slot. (bucket_named states name ≡ None) × (found name ≡ slot_bucket slot))
   pub apart : IsDistinct bytes_eq (keys_of left)
-  pub names : IsDistinct bytes_eq (names_of states)
+  pub names : IsDistinct bytes_eq (state_names states)
   pub keys : All (λ bucket. IsDistinct same_key (keys_held bucket)) states
 
 lookup-none : (other name : List ℕ) (left : List (List ℕ × Slot)) → other ≡ name → AllByRecursion (λ key. bytes_eq name key ≡ false) (keys_of left)
@@ -110,26 +110,26 @@ named_by name found bucket = cond (bytes_eq bucket.name name) (Some (bucket_kept
 
 -- a name under which nothing is found is not among the names
 none_named : (name : List ℕ) (found : Option Bucket) (states : List BucketState) → fold (named_by name) found states ≡ None
-    → (found ≡ None) × (list_any (bytes_eq name) (names_of states) ≡ false)
+    → (found ≡ None) × (list_any (bytes_eq name) (state_names states) ≡ false)
 none_named name found [] none = (none, refl)
 none_named name found (state ∷ states) none =
     let later = none_named name (named_by name found state) states none in
     by (bytes_eq state.name name) refl later.0 later.1
   where
-    by : (b : Bool) → bytes_eq state.name name ≡ b → cond (bytes_eq state.name name) (Some (bucket_kept state)) found ≡ None → list_any (bytes_eq name) (names_of states) ≡ false
-        → (found ≡ None) × (list_any (bytes_eq name) (names_of (state ∷ states)) ≡ false)
+    by : (b : Bool) → bytes_eq state.name name ≡ b → cond (bytes_eq state.name name) (Some (bucket_kept state)) found ≡ None → list_any (bytes_eq name) (state_names states) ≡ false
+        → (found ≡ None) × (list_any (bytes_eq name) (state_names (state ∷ states)) ≡ false)
     by true same is later =
         let wrong : Some (bucket_kept state) ≡ None = rw same at is in cc
     by false apart is later =
         (rw apart at is, rw (nat_list_eq_equiv.symm name state.name, apart) later)
 
-names-push : (states : List BucketState) (state : BucketState) → names_of (states ++ state ∷ []) ≡ names_of states ++ state.name ∷ []
+names-push : (states : List BucketState) (state : BucketState) → state_names (states ++ state ∷ []) ≡ state_names states ++ state.name ∷ []
 names-push [] state = refl
 names-push (first ∷ states) state = ap (λ names. first.name ∷ names) (names-push states state)
 
 module _ (found : List ℕ → Option Bucket) (states : List BucketState) (name : List ℕ) (slot : Slot) (left : List (List ℕ × Slot)) where
   abbrev Left : List BucketState → List ℕ → Type 0
-  Left now other = MatchOption (lookup (bytes_eq other) left) (bucket_in now other ≡ found other) (λ one. (bucket_in now other ≡ None) × (found other ≡ slot_bucket one))
+  Left now other = MatchOption (lookup (bytes_eq other) left) (bucket_named now other ≡ found other) (λ one. (bucket_named now other ≡ None) × (found other ≡ slot_bucket one))
 
   skipped : Listing found states ((name, slot) ∷ left) → slot_bucket slot ≡ None → Listing found states left
   skipped listing gone = record {
@@ -141,7 +141,7 @@ module _ (found : List ℕ → Option Bucket) (states : List BucketState) (name 
     where
       by : (other : List ℕ) (b : Bool) → bytes_eq other name ≡ b → Left states other
       by other true same =
-          let here : (bucket_in states other ≡ None) × (found other ≡ slot_bucket slot) = rw same at (listing.kept other) in
+          let here : (bucket_named states other ≡ None) × (found other ≡ slot_bucket slot) = rw same at (listing.kept other) in
           let none : lookup (bytes_eq other) left ≡ None =
           lookup-none other name left ((bytes_eq-Decides other name).0 same) (IsDistinct-head bytes_eq name (keys_of left) listing.apart) in
           rw none (here.0 ∙ sym gone ∙ sym here.1)
@@ -152,35 +152,35 @@ module _ (found : List ℕ → Option Bucket) (states : List BucketState) (name 
   added bucket state listing there own = record {
     kept = λ other. by other (bytes_eq other name) refl;
     apart = IsDistinct-tail bytes_eq name (keys_of left) listing.apart;
-    names = rw (names-push states state) (IsDistinct-push nat_list_eq_equiv (names_of states) state.name listing.names absent);
+    names = rw (names-push states state) (IsDistinct-push nat_list_eq_equiv (state_names states) state.name listing.names absent);
     keys = All-push (λ (one : BucketState). IsDistinct same_key (keys_held one)) states state listing.keys own.keys;
   }
     where
-      before : (bucket_in states name ≡ None) × (found name ≡ slot_bucket slot)
+      before : (bucket_named states name ≡ None) × (found name ≡ slot_bucket slot)
       before = rw (nat_list_eq_equiv.refl name) at (listing.kept name)
 
-      absent : list_any (bytes_eq state.name) (names_of states) ≡ false
+      absent : list_any (bytes_eq state.name) (state_names states) ≡ false
       absent = rw own.named ((none_named name None states before.0).1)
 
-      pushed : (other : List ℕ) → bucket_in (states ++ state ∷ []) other ≡ named_by other (bucket_in states other) state
+      pushed : (other : List ℕ) → bucket_named (states ++ state ∷ []) other ≡ named_by other (bucket_named states other) state
       pushed other = fold_push (named_by other) None states state
 
       by : (other : List ℕ) (b : Bool) → bytes_eq other name ≡ b → Left (states ++ state ∷ []) other
       by other true same =
-          let here : (bucket_in states other ≡ None) × (found other ≡ slot_bucket slot) = rw same at (listing.kept other) in
+          let here : (bucket_named states other ≡ None) × (found other ≡ slot_bucket slot) = rw same at (listing.kept other) in
           let none : lookup (bytes_eq other) left ≡ None =
           lookup-none other name left ((bytes_eq-Decides other name).0 same) (IsDistinct-head bytes_eq name (keys_of left) listing.apart) in
           let named : bytes_eq state.name other ≡ true = ap (λ one. bytes_eq one other) own.named ∙ nat_list_eq_equiv.symm name other ∙ same in
-          let now : named_by other (bucket_in states other) state ≡ Some (bucket_kept state) = rw named refl in
+          let now : named_by other (bucket_named states other) state ≡ Some (bucket_kept state) = rw named refl in
           rw none (pushed other ∙ now ∙ ap (λ one. Some one) own.kept ∙ sym there ∙ sym here.1)
       by other false apart =
           let named : bytes_eq state.name other ≡ false = ap (λ one. bytes_eq one other) own.named ∙ nat_list_eq_equiv.symm name other ∙ apart in
-          let now : named_by other (bucket_in states other) state ≡ bucket_in states other = rw named refl in
+          let now : named_by other (bucket_named states other) state ≡ bucket_named states other = rw named refl in
           let was : Left states other = rw apart at (listing.kept other) in
           subst (λ (o : Option Bucket). MatchOption (lookup (bytes_eq other) left) (o ≡ found other) (λ one. (o ≡ None) × (found other ≡ slot_bucket one)))
           (sym (pushed other ∙ now)) was
 
-  pub Listing-step : (new : List BucketState) → Listing found states ((name, slot) ∷ left) → Adds name slot states new → Listing found new left
+  pub Listing-step : (new : List BucketState) → Listing found states ((name, slot) ∷ left) → AddsBucket name slot states new → Listing found new left
   Listing-step new listing adds = by (slot_bucket slot) refl adds
     where
       by : (o : Option Bucket) → slot_bucket slot ≡ o
@@ -200,6 +200,6 @@ Listing-first found slots is distinct = record {
   keys = search rules;
 }
   where
-    by : (name : List ℕ) (o : Option Slot) → found name ≡ option_and_then slot_bucket o → MatchOption o (bucket_in [] name ≡ found name) (λ slot. (bucket_in [] name ≡ None) × (found name ≡ slot_bucket slot))
+    by : (name : List ℕ) (o : Option Slot) → found name ≡ option_and_then slot_bucket o → MatchOption o (bucket_named [] name ≡ found name) (λ slot. (bucket_named [] name ≡ None) × (found name ≡ slot_bucket slot))
     by name None is = sym is
     by name (Some slot) is = (refl, is)

@@ -11,7 +11,7 @@ use Rattle.ps_bucket_log.specs.declared.ops.Key.{Key}
 use Rattle.ps_bucket_log.specs.declared.ops.Op.{Op}
 use Rattle.ps_bucket_log.specs.declared.ops.Op.TheVariants.{Put, Remove, Move, Clear}
 use Rattle.ps_bucket_log.specs.Ops.{id_of, same_key}
-use Rattle.ps_bucket_log.specs.Buckets.{Bucket, after, fresh, held_after, bucket_of}
+use Rattle.ps_bucket_log.specs.Buckets.{Bucket, after, fresh_bucket, held_after, bucket_of}
 use Rattle.ps_bucket_log.specs.Logs.{IsRising}
 use Rattle.ps_client_log.specs.declared.edits.Edit.{Edit}
 use Rattle.ps_client_log.specs.declared.edits.Edit.TheVariants.{Take, Delete, Push, Pop, Aim, Show}
@@ -24,7 +24,7 @@ use Rattle.ps_client_log.specs.Logs.{IsHeld}
 use Rattle.ps_client_log.specs.Kept.{Kept, bucket_at, kept_of, nothing_kept}
 use Rattle.ps_client_log.specs.Soundness.{greatest, same_row, IsSound, IsSoundBucket, IsSoundState}
 use Rattle.ps_client_log.specs.Edits.{CanTake, CanMake, CanMakeAll, with_bucket, with_taken, with_edit, with_edits}
-use Rattle.ps_client_log.specs.Keeping.{Tells}
+use Rattle.ps_client_log.specs.Keeping.{TellsKept}
 
 held_sound : (key : Key) (held : Option Op) (op : Op) → IfSome held (λ one. id_of one ≤ greatest) → id_of op ≤ greatest
     → IfSome (held_after key held op) (λ one. id_of one ≤ greatest)
@@ -58,10 +58,10 @@ all_sound p bucket [] sound rising within = sound
 all_sound p bucket (op ∷ ops) sound rising within =
     all_sound (id_of op) (after bucket op) ops (sound_after bucket op sound (omega (arith, within, below_newest (id_of op) ops rising.1))) rising.1 within
 
-fresh_sound : IsSoundBucket fresh
+fresh_sound : IsSoundBucket fresh_bucket
 fresh_sound = record { position = omega arith; held = λ key. tt }
 
-at_sound : (bucket : Option Bucket) → IfSome bucket IsSoundBucket → IsSoundBucket (unwrap_or bucket fresh)
+at_sound : (bucket : Option Bucket) → IfSome bucket IsSoundBucket → IsSoundBucket (unwrap_or bucket fresh_bucket)
 at_sound None sound = fresh_sound
 at_sound (Some bucket) sound = sound
 
@@ -108,15 +108,15 @@ pub with_taken-image : (name : List ℕ) (ops before : List Op) (kept : Kept) �
 with_taken-image name [] before kept image = image ∙ ap bucket_of (sym (append-nil before))
 with_taken-image name (op ∷ ops) before kept image =
     rw (nat_list_eq_equiv.refl name)
-    (ap (λ bucket. fold after bucket (op ∷ ops)) image ∙ sym (fold-append after fresh before (op ∷ ops)))
+    (ap (λ bucket. fold after bucket (op ∷ ops)) image ∙ sym (fold-append after fresh_bucket before (op ∷ ops)))
 
 -- a keeper that tells what is kept can make the same edits, and tells what they make
-pub tells_can : (told : Option Kept) (kept : Kept) (edits : List Edit) → Tells told kept → CanMakeAll kept edits → IfSome told (λ own. CanMakeAll own edits)
+pub tells_can : (told : Option Kept) (kept : Kept) (edits : List Edit) → TellsKept told kept → CanMakeAll kept edits → IfSome told (λ own. CanMakeAll own edits)
 tells_can None kept edits tells can = tt
 tells_can (Some own) kept edits tells can = subst (λ one. CanMakeAll one edits) (sym tells) can
 
-pub tells_after : (before after_it : Option Kept) (kept : Kept) (edits : List Edit) → Tells before kept
-    → after_it ≡ option_map (λ own. with_edits own edits) before → Tells after_it (with_edits kept edits)
+pub tells_after : (before after_it : Option Kept) (kept : Kept) (edits : List Edit) → TellsKept before kept
+    → after_it ≡ option_map (λ own. with_edits own edits) before → TellsKept after_it (with_edits kept edits)
 tells_after None after_it kept edits tells is = rw is tt
 tells_after (Some own) after_it kept edits tells is = rw is (ap (λ one. with_edits one edits) tells)
 

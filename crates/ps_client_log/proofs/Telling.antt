@@ -9,7 +9,7 @@ use Rattle.ps_bucket_log.specs.Buckets.{Bucket}
 use Rattle.ps_client_log.specs.declared.states.Held.{Held}
 use Rattle.ps_client_log.specs.declared.states.State.{State}
 use Rattle.ps_client_log.specs.declared.holdings.Holdings.{Holdings}
-use Rattle.ps_client_log.specs.Kept.{put_of, held_sum, with_held, told_by, bucket_in, shown_in, kept_of}
+use Rattle.ps_client_log.specs.Kept.{put_of, held_sum, with_held, told_by, bucket_named, shown_in, kept_of}
 use Rattle.ps_client_log.specs.Images.{bucket_found}
 use Rattle.ps_client_log.specs.Rooms.{kept_by}
 
@@ -48,7 +48,7 @@ pub total_added : (added sums : ℕ) → ((0 + sums) % 2 ^ 32 + added) % 2 ^ 32 
 total_added added sums = mod-add-mod (0 + sums) (2 ^ 32) added ∙ ap (λ n. n % 2 ^ 32) (omega arith)
 
 -- a state tells what is held, part by part
-pub same_kept : (state : State) (holdings : Holdings) → ((name : List ℕ) → bucket_in state.buckets name ≡ bucket_found holdings.buckets name)
+pub same_kept : (state : State) (holdings : Holdings) → ((name : List ℕ) → bucket_named state.buckets name ≡ bucket_found holdings.buckets name)
     → state.queue ≡ holdings.queue.items → state.target ≡ holdings.target → state.shown ≡ holdings.shown → kept_of state ≡ kept_by holdings
 same_kept state holdings buckets queue target shown = λ i. record {
   bucket = λ name. buckets name i;

@@ -22,8 +22,8 @@ abbrev pub one_more : Option ℕ → Option ℕ
 one_more calls = option_map (λ made. min (made + 1) (2 ^ 64 - 1)) calls
 
 -- a keeper that tells what it keeps keeps this
-abbrev pub Tells : Option Kept → Kept → Type 0
-Tells told kept = IfSome told (λ own. own ≡ kept)
+abbrev pub TellsKept : Option Kept → Kept → Type 0
+TellsKept told kept = IfSome told (λ own. own ≡ kept)
 
 -- whether a keeper failed
 abbrev pub has_failed : {X : Type 0} → Result X KeepFault → Bool

@@ -4,7 +4,7 @@ use Rattle.ps_bucket_log.specs.declared.ops.Key.{Key}
 use Rattle.ps_bucket_log.specs.declared.ops.Op.{Op}
 use Rattle.ps_bucket_log.specs.declared.ops.Op.TheVariants.{Put}
 use Rattle.ps_bucket_log.specs.Ops.{same_key}
-use Rattle.ps_bucket_log.specs.Buckets.{Bucket, bucket_of, fresh}
+use Rattle.ps_bucket_log.specs.Buckets.{Bucket, bucket_of, fresh_bucket}
 use Rattle.ps_rows.specs.declared.changes.Change.{Change}
 use Rattle.ps_rows.specs.declared.shown.Shown.{Shown}
 use Rattle.ps_client_log.specs.declared.states.State.{State}
@@ -56,8 +56,8 @@ with_held bucket held = record {
 }
 
 -- the bucket of that name
-abbrev pub bucket_in : List BucketState → List ℕ → Option Bucket
-bucket_in buckets name = fold (λ found bucket. if bytes_eq bucket.name name then Some (bucket_kept bucket) else found) None buckets
+abbrev pub bucket_named : List BucketState → List ℕ → Option Bucket
+bucket_named buckets name = fold (λ found bucket. if bytes_eq bucket.name name then Some (bucket_kept bucket) else found) None buckets
 
 -- the data that is shown for a kind and an id
 abbrev pub shown_in : List Shown → List ℕ → List ℕ → Option (List ℕ)
@@ -66,7 +66,7 @@ shown_in rows kind id = fold (λ found row. if bytes_eq kind row.kind && bytes_e
 -- what a state keeps
 abbrev pub kept_of : State → Kept
 kept_of state = record {
-  bucket = bucket_in state.buckets;
+  bucket = bucket_named state.buckets;
   queue = state.queue;
   target = state.target;
   shown = shown_in state.shown;
@@ -74,7 +74,7 @@ kept_of state = record {
 
 -- what a bucket holds; one that is not there holds what one does that took nothing
 abbrev pub bucket_at : Kept → List ℕ → Bucket
-bucket_at kept name = unwrap_or (kept.bucket name) fresh
+bucket_at kept name = unwrap_or (kept.bucket name) fresh_bucket
 
 -- a bucket's state is the image of a list of operations: it is at the list's last id, has its total, and holds its PUTs that stand
 abbrev pub IsImageOf : BucketState → List Op → Type 0

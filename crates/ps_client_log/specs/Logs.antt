@@ -4,7 +4,7 @@ use Rattle.std.specs.List.{IsDistinct}
 use Rattle.ps_client_log.specs.declared.holdings.Holdings.{Holdings}
 use Rattle.ps_client_log.specs.Kept.{Kept}
 use Rattle.ps_client_log.specs.Soundness.{IsSound, same_row}
-use Rattle.ps_client_log.specs.Keeping.{Tells}
+use Rattle.ps_client_log.specs.Keeping.{TellsKept}
 use Rattle.ps_client_log.specs.Rooms.{kept_by}
 
 -- a log is its keeper and what it holds in memory
@@ -20,7 +20,7 @@ pub record IsHeld (holdings : Holdings) : Type 0 where
   pub shown : IsDistinct same_row holdings.shown
 
 -- what is held in memory is sound, and what its keeper keeps, where that is told
-pub record Stands (told : Option Kept) (holdings : Holdings) : Type 0 where
-  pub tells : Tells told (kept_by holdings)
+pub record HoldingsStand (told : Option Kept) (holdings : Holdings) : Type 0 where
+  pub tells : TellsKept told (kept_by holdings)
   pub sound : IsSound (kept_by holdings)
   pub shown : IsDistinct same_row holdings.shown

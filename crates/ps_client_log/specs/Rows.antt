@@ -19,8 +19,8 @@ pub record HeldCopy : Type 0 where
   pub put : Op
 
 -- the bucket holds it
-abbrev pub Holds : Kept → HeldCopy → Type 0
-Holds kept copy = (bucket_at kept copy.bucket).held copy.key ≡ Some copy.put
+abbrev pub BucketHolds : Kept → HeldCopy → Type 0
+BucketHolds kept copy = (bucket_at kept copy.bucket).held copy.key ≡ Some copy.put
 
 -- the object's type and id
 abbrev pub object_of : HeldCopy → Object
@@ -30,16 +30,16 @@ object_of copy = (copy.key.kind, copy.key.id)
 abbrev pub Place : Type 0
 Place = ℕ × List ℕ × List ℕ
 
-abbrev pub place_of : HeldCopy → Place
-place_of copy = (id_of copy.put, copy.bucket, copy.key.subkey)
+abbrev pub copy_place : HeldCopy → Place
+copy_place copy = (id_of copy.put, copy.bucket, copy.key.subkey)
 
 abbrev pub place_cmp : Place → Place → Ordering
 place_cmp a b = ordering_then (nat_cmp a.0 b.0) (ordering_then (slice_cmp nat_cmp a.1 b.1) (slice_cmp nat_cmp a.2 b.2))
 
 -- it is held, and of its object no copy that is held stands past it
 pub record IsLatest (kept : Kept) (copy : HeldCopy) : Type 0 where
-  pub held : Holds kept copy
-  pub latest : (other : HeldCopy) → Holds kept other → object_of other ≡ object_of copy → IsTrue (is_le (place_cmp (place_of other) (place_of copy)))
+  pub held : BucketHolds kept copy
+  pub latest : (other : HeldCopy) → BucketHolds kept other → object_of other ≡ object_of copy → IsTrue (is_le (place_cmp (copy_place other) (copy_place copy)))
 
 -- the data of a PUT
 abbrev pub content_of : Op → List ℕ
@@ -61,5 +61,5 @@ abbrev pub AreInOrder : List Shown → Type 0
 AreInOrder rows = IsTrue (is_sorted key_cmp (by_object rows))
 
 -- the data of the object's row, where it has one
-abbrev pub row_at : Object → List Shown → Option (List ℕ)
-row_at object rows = find key_cmp object (by_object rows)
+abbrev pub shown_at : Object → List Shown → Option (List ℕ)
+shown_at object rows = find key_cmp object (by_object rows)

@@ -19,8 +19,8 @@ held_of pair = record { key = pair.0; id = pair.1.id; content = pair.1.content; 
 abbrev pub keys_held : BucketState → List Key
 keys_held bucket = map (λ held. held.key) bucket.held
 
-abbrev pub names_of : List BucketState → List (List ℕ)
-names_of buckets = map (λ bucket. bucket.name) buckets
+abbrev pub state_names : List BucketState → List (List ℕ)
+state_names buckets = map (λ bucket. bucket.name) buckets
 
 -- the state of a bucket with this name
 pub record IsBucketOf (name : List ℕ) (bucket : Bucket) (state : BucketState) : Type 0 where
@@ -29,5 +29,5 @@ pub record IsBucketOf (name : List ℕ) (bucket : Bucket) (state : BucketState) 
   pub keys : IsDistinct same_key (keys_held state)
 
 -- the state of a slot's bucket is added, where the bucket is there
-abbrev pub Adds : List ℕ → Slot → List BucketState → List BucketState → Type 0
-Adds name slot old new = MatchOption (slot_bucket slot) (new ≡ old) (λ bucket. (state : BucketState) × IsBucketOf name bucket state × (new ≡ old ++ state ∷ []))
+abbrev pub AddsBucket : List ℕ → Slot → List BucketState → List BucketState → Type 0
+AddsBucket name slot old new = MatchOption (slot_bucket slot) (new ≡ old) (λ bucket. (state : BucketState) × IsBucketOf name bucket state × (new ≡ old ++ state ∷ []))

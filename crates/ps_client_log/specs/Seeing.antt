@@ -8,14 +8,14 @@ use Rattle.ps_rows.specs.Source.{Key as Object, key_cmp}
 use Rattle.ps_client_log.specs.declared.images.Entry.{Entry}
 use Rattle.ps_client_log.specs.declared.slots.Slot.{Slot}
 use Rattle.ps_client_log.specs.Images.{key_eq, put_at}
-use Rattle.ps_client_log.specs.Rows.{HeldCopy, Place, object_of, place_of, place_cmp, content_of}
+use Rattle.ps_client_log.specs.Rows.{HeldCopy, Place, object_of, copy_place, place_cmp, content_of}
 
-abbrev pub copy_of : List ℕ → Key × Entry → HeldCopy
-copy_of bucket pair = record { bucket = bucket; key = pair.0; put = put_at pair.0 pair.1 }
+abbrev pub held_copy : List ℕ → Key × Entry → HeldCopy
+held_copy bucket pair = record { bucket = bucket; key = pair.0; put = put_at pair.0 pair.1 }
 
 -- the copies in a bucket, and in all that are there
 abbrev pub copies_in : List ℕ → List (Key × Entry) → List HeldCopy
-copies_in bucket pairs = map (copy_of bucket) pairs
+copies_in bucket pairs = map (held_copy bucket) pairs
 
 abbrev pub copies_at : List ℕ → Slot → List HeldCopy
 copies_at bucket slot = if slot.there then copies_in bucket slot.image.held.entries else []
@@ -36,7 +36,7 @@ pub record Note : Type 0 where
   pub content : List ℕ
 
 abbrev pub note_of : HeldCopy → Note
-note_of copy = record { id = (place_of copy).0; bucket = copy.bucket; subkey = copy.key.subkey; content = content_of copy.put }
+note_of copy = record { id = (copy_place copy).0; bucket = copy.bucket; subkey = copy.key.subkey; content = content_of copy.put }
 
 abbrev pub noted_place : Note → Place
 noted_place note = (note.id, note.bucket, note.subkey)
@@ -47,12 +47,12 @@ is_past None place = true
 is_past (Some known) place = is_lt (place_cmp (noted_place known) place)
 
 -- what is noted of an object once a copy was seen
-abbrev pub seen : Object → Option Note → HeldCopy → Option Note
-seen object known copy = if eq_by_cmp key_cmp (object_of copy) object && is_past known (place_of copy) then Some (note_of copy) else known
+abbrev pub noted_after : Object → Option Note → HeldCopy → Option Note
+noted_after object known copy = if eq_by_cmp key_cmp (object_of copy) object && is_past known (copy_place copy) then Some (note_of copy) else known
 
 -- and once several were
 abbrev pub all_seen : Object → Option Note → List HeldCopy → Option Note
-all_seen object known copies = fold (seen object) known copies
+all_seen object known copies = fold (noted_after object) known copies
 
 -- a bucket of that name is there
 abbrev pub is_there : List ℕ → List (List ℕ × Slot) → Bool

@@ -1,7 +1,7 @@
 ghost use Rattle.std.specs.Prelude.{◌≡◌, ◌≢◌, ℕ, ◌+◌, ◌≤◌, List, [], Some, None, OnOk, IfOk, fold, length, unwrap_or, bytes_eq, if◌then◌else◌};
-ghost use Rattle.ps_bucket_log.specs.Buckets.{after, fresh};
+ghost use Rattle.ps_bucket_log.specs.Buckets.{after, fresh_bucket};
 ghost use Rattle.ps_client_log.specs.Images.{bucket_found, room_for};
-ghost use Rattle.ps_client_log.specs.Kept.{bucket_in, bucket_kept};
+ghost use Rattle.ps_client_log.specs.Kept.{bucket_named, bucket_kept};
 ghost use Rattle.ps_client_log.specs.Rooms.{given};
 
 use crate::images::Image;
@@ -55,7 +55,7 @@ impl Buckets {
         hashing: Hashing,
         states: Items<BucketState>,
     ) -> Result<Buckets, Memory>
-        ensures { IfOk result (λ buckets. (name : List ℕ) → bucket_found buckets name ≡ bucket_in states name) }
+        ensures { IfOk result (λ buckets. (name : List ℕ) → bucket_found buckets name ≡ bucket_named states name) }
     {
         let mut buckets = Buckets::new(alloc, hashing);
         'states: for state in states.into_vec() {
@@ -99,7 +99,7 @@ impl Buckets {
         requires some { ops.items ≢ [] }
         requires room { length ops.items ≤ room_for self.old name.now }
         ensures buckets { (other : List ℕ) → bucket_found self.new other
-            ≡ (if bytes_eq name.now other then Some (fold after (unwrap_or (bucket_found self.old name.now) fresh) ops.items) else bucket_found self.old other) }
+            ≡ (if bytes_eq name.now other then Some (fold after (unwrap_or (bucket_found self.old name.now) fresh_bucket) ops.items) else bucket_found self.old other) }
         ensures rooms { (other : List ℕ) → room_for self.old other ≤ room_for self.new other + (if bytes_eq name.now other then length ops.items else 0) }
     {
         if let Some(slot) = self.slots.get_mut(name) {
@@ -132,7 +132,7 @@ impl Buckets {
 
     // A bucket's total, 0 where it is not there.
     pub fn total(&self, name: &Text) -> Sum
-        ensures { result.0 ≡ (unwrap_or (bucket_found self.now name.now) fresh).total }
+        ensures { result.0 ≡ (unwrap_or (bucket_found self.now name.now) fresh_bucket).total }
     {
         match self.slots.get(name) {
             Some(slot) if slot.there => slot.image.total,
@@ -142,7 +142,7 @@ impl Buckets {
 
     // A bucket's position, 0 where it is not there.
     pub fn position(&self, name: &Text) -> OpId
-        ensures { result.0 ≡ (unwrap_or (bucket_found self.now name.now) fresh).position }
+        ensures { result.0 ≡ (unwrap_or (bucket_found self.now name.now) fresh_bucket).position }
     {
         match self.slots.get(name) {
             Some(slot) if slot.there => slot.image.position,

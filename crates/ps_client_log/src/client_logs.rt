@@ -10,9 +10,9 @@ ghost use Rattle.ps_bucket_log.specs.Buckets.{bucket_of};
 ghost use Rattle.ps_client_log.specs.Kept.{bucket_at, nothing_kept, shown_in};
 ghost use Rattle.ps_client_log.specs.Soundness.{IsSound, same_row};
 ghost use Rattle.ps_client_log.specs.Edits.{CanTake, CanMakeAll, with_bucket, with_taken, with_edits};
-ghost use Rattle.ps_client_log.specs.Keeping.{RoseAt, RoseWhereFailed, Tells, one_more};
+ghost use Rattle.ps_client_log.specs.Keeping.{RoseAt, RoseWhereFailed, TellsKept, one_more};
 ghost use Rattle.ps_client_log.specs.Logs.{keeper_of, kept};
-ghost use Rattle.ps_client_log.specs.Rows.{HeldCopy, Holds, object_of, IsLatestContent, AreInOrder, row_at};
+ghost use Rattle.ps_client_log.specs.Rows.{HeldCopy, BucketHolds, object_of, IsLatestContent, AreInOrder, shown_at};
 
 use crate::holdings::Holdings;
 use crate::rows::{bucket_names, held_rows};
@@ -40,11 +40,11 @@ impl<K: Keeper> Model for ClientLog<K> {
 
     ghost coded = { coded× K.code stored.the_row.coded };
 
-    ghost use Rattle.ps_client_log.specs.Logs.{Stands};
+    ghost use Rattle.ps_client_log.specs.Logs.{HoldingsStand};
 
     ghost view = { λ log. (log.keeper, log.holdings) };
 
-    ghost invariant = { λ log. Stands (K.held log.keeper) log.holdings };
+    ghost invariant = { λ log. HoldingsStand (K.held log.keeper) log.holdings };
 }
 
 impl ClientLog<VolatileKeeper> {
@@ -65,7 +65,7 @@ impl<K: Keeper> ClientLog<K> {
     /// Holds the state that a keeper keeps, which is loaded once, in maps that hash by a seed that everyone knows: for keys that nobody chose for it, as
     /// those in files of one's own. Fails as `open_hashed` does, and gives the keeper back then.
     pub fn open(alloc: Global, keeper: K) -> Result<ClientLog<K>, (K, KeepFault)>
-        ensures kept { IfOk result (λ log. Tells (K.held keeper) (kept log)) }
+        ensures kept { IfOk result (λ log. TellsKept (K.held keeper) (kept log)) }
         ensures held { IfOk result (λ log. K.held (keeper_of log) ≡ K.held keeper) }
         ensures sound { IfOk result (λ log. IsSound (kept log)) }
         ensures faults { IfOk result (λ log. K.faults (keeper_of log) ≡ K.faults keeper) }
@@ -86,7 +86,7 @@ impl<K: Keeper> ClientLog<K> {
         keeper: K,
         hashing: Hashing,
     ) -> Result<ClientLog<K>, (K, KeepFault)>
-        ensures kept { IfOk result (λ log. Tells (K.held keeper) (kept log)) }
+        ensures kept { IfOk result (λ log. TellsKept (K.held keeper) (kept log)) }
         ensures held { IfOk result (λ log. K.held (keeper_of log) ≡ K.held keeper) }
         ensures sound { IfOk result (λ log. IsSound (kept log)) }
         ensures faults { IfOk result (λ log. K.faults (keeper_of log) ≡ K.faults keeper) }
@@ -127,7 +127,7 @@ impl<K: Keeper> ClientLog<K> {
         ensures err { OnErr result (kept self.new ≡ kept self.old) }
         ensures told { OnOk result (K.held (keeper_of self.new) ≡ option_map (λ own. with_edits own edits.items) (K.held (keeper_of self.old))) }
         ensures held { OnErr result (K.held (keeper_of self.new) ≡ K.held (keeper_of self.old)) }
-        ensures tells { Tells (K.held (keeper_of self.new)) (kept self.new) }
+        ensures tells { TellsKept (K.held (keeper_of self.new)) (kept self.new) }
         ensures failed { RoseWhereFailed result (K.faults (keeper_of self.old)) (K.faults (keeper_of self.new)) }
         ensures faults { K.faults (keeper_of self.old) ≤ K.faults (keeper_of self.new) }
         ensures quiet { OnOk result (K.faults (keeper_of self.new) ≡ K.faults (keeper_of self.old)) }
@@ -159,7 +159,7 @@ impl<K: Keeper> ClientLog<K> {
         ensures err { OnErr result (kept self.new ≡ kept self.old) }
         ensures told { OnOk result (K.held (keeper_of self.new) ≡ option_map (λ own. with_taken bucket.now ops.items own) (K.held (keeper_of self.old))) }
         ensures held { OnErr result (K.held (keeper_of self.new) ≡ K.held (keeper_of self.old)) }
-        ensures tells { Tells (K.held (keeper_of self.new)) (kept self.new) }
+        ensures tells { TellsKept (K.held (keeper_of self.new)) (kept self.new) }
         ensures failed { RoseWhereFailed result (K.faults (keeper_of self.old)) (K.faults (keeper_of self.new)) }
         ensures faults { K.faults (keeper_of self.old) ≤ K.faults (keeper_of self.new) }
         ensures quiet { OnOk result (K.faults (keeper_of self.new) ≡ K.faults (keeper_of self.old)) }
@@ -180,7 +180,7 @@ impl<K: Keeper> ClientLog<K> {
         ensures err { OnErr result (kept self.new ≡ kept self.old) }
         ensures told { OnOk result (K.held (keeper_of self.new) ≡ option_map (λ own. with_bucket bucket.now None own) (K.held (keeper_of self.old))) }
         ensures held { OnErr result (K.held (keeper_of self.new) ≡ K.held (keeper_of self.old)) }
-        ensures tells { Tells (K.held (keeper_of self.new)) (kept self.new) }
+        ensures tells { TellsKept (K.held (keeper_of self.new)) (kept self.new) }
         ensures failed { RoseWhereFailed result (K.faults (keeper_of self.old)) (K.faults (keeper_of self.new)) }
         ensures faults { K.faults (keeper_of self.old) ≤ K.faults (keeper_of self.new) }
         ensures quiet { OnOk result (K.faults (keeper_of self.new) ≡ K.faults (keeper_of self.old)) }
@@ -218,7 +218,7 @@ impl<K: Keeper> ClientLog<K> {
     pub fn target(&self) -> &Target
         ensures value { result.now ≡ (kept self.now).target }
         ensures sound { IsSound (kept self.now) }
-        ensures tells { Tells (K.held (keeper_of self.now)) (kept self.now) }
+        ensures tells { TellsKept (K.held (keeper_of self.now)) (kept self.now) }
     {
         &self.holdings.target
     }
@@ -244,8 +244,8 @@ impl<K: Keeper> ClientLog<K> {
     pub fn held_rows(&self, alloc: Global) -> Result<Vec<Shown>, Memory>
         ensures in_order { IfOk result (λ rows. AreInOrder rows.items) }
         ensures distinct { IfOk result (λ rows. IsDistinct same_row rows.items) }
-        ensures latest { IfOk result (λ rows. (object : Object) → IfSome (row_at object rows.items) (IsLatestContent (kept self.now) object)) }
-        ensures all { IfOk result (λ rows. (copy : HeldCopy) → Holds (kept self.now) copy → IsSome (row_at (object_of copy) rows.items)) }
+        ensures latest { IfOk result (λ rows. (object : Object) → IfSome (shown_at object rows.items) (IsLatestContent (kept self.now) object)) }
+        ensures all { IfOk result (λ rows. (copy : HeldCopy) → BucketHolds (kept self.now) copy → IsSome (shown_at (object_of copy) rows.items)) }
     {
         held_rows(alloc, &self.holdings)
     }

@@ -1,6 +1,6 @@
 ghost use Rattle.std.specs.Prelude.{◌≡◌, ◌+◌, ◌<◌, ◌≤◌, fold, length, OnOk, IfOk};
 ghost use Rattle.indexmap.specs.IndexMap.{spare};
-ghost use Rattle.ps_bucket_log.specs.Buckets.{after, fresh};
+ghost use Rattle.ps_bucket_log.specs.Buckets.{after, fresh_bucket};
 ghost use Rattle.ps_client_log.specs.Images.{image_of};
 ghost use Rattle.ps_client_log.specs.Kept.{with_held, told_by};
 
@@ -30,7 +30,7 @@ pub struct Image {
 impl Image {
     // The image of no operations.
     pub fn new(alloc: Global, hashing: Hashing) -> Image
-        ensures { image_of result ≡ fresh }
+        ensures { image_of result ≡ fresh_bucket }
     {
         Image {
             position: OpId(0),
@@ -87,7 +87,7 @@ impl Image {
 
     // Begins anew, and keeps the room.
     pub fn reset(&mut self)
-        ensures image { image_of self.new ≡ fresh }
+        ensures image { image_of self.new ≡ fresh_bucket }
         ensures room { spare self.old.held ≤ spare self.new.held }
     {
         self.position = OpId(0);

@@ -1,5 +1,5 @@
 ghost use Rattle.std.specs.Prelude.{◌≡◌, ◌≤◌, Some, None, IfOk, OnOk, OnErr};
-ghost use Rattle.ps_io.specs.Calls.{fails_next, Begins, IsCounted};
+ghost use Rattle.ps_io.specs.Calls.{fails_next, BeginsCounting, CallIsCounted};
 ghost use Rattle.ps_client_log.specs.Kept.{kept_of, nothing_kept};
 ghost use Rattle.ps_client_log.specs.Soundness.{IsSound, IsSoundState};
 ghost use Rattle.ps_client_log.specs.Edits.{CanMakeAll, with_edits};
@@ -43,7 +43,7 @@ impl MemoryKeeper {
     pub fn new(alloc: Global, failing: Items<u64>) -> MemoryKeeper
         ensures held { ⟦<MemoryKeeper as Keeper>⟧.held result ≡ Some nothing_kept }
         ensures faults { ⟦<MemoryKeeper as Keeper>⟧.faults result ≡ 0 }
-        ensures calls { Begins failing (calls_of result) }
+        ensures calls { BeginsCounting failing (calls_of result) }
     {
         MemoryKeeper {
             holdings: Holdings::new(alloc, Hashing::Fixed),
@@ -67,7 +67,7 @@ impl Keeper for MemoryKeeper {
         ensures failed { RoseWhereFailed result self.old.1.faults self.new.1.faults }
         ensures faults { self.old.1.faults ≤ self.new.1.faults }
         ensures quiet { OnOk result (self.new.1.faults ≡ self.old.1.faults) }
-        ensures calls { IsCounted self.old.1 self.new.1 }
+        ensures calls { CallIsCounted self.old.1 self.new.1 }
         ensures fails { has_failed result ≡ fails_next self.old.1 }
     {
         let _holdings = &self.holdings;
@@ -86,7 +86,7 @@ impl Keeper for MemoryKeeper {
         ensures failed { RoseWhereFailed result self.old.1.faults self.new.1.faults }
         ensures faults { self.old.1.faults ≤ self.new.1.faults }
         ensures quiet { OnOk result (self.new.1.faults ≡ self.old.1.faults) }
-        ensures calls { IsCounted self.old.1 self.new.1 }
+        ensures calls { CallIsCounted self.old.1 self.new.1 }
         ensures fails { has_failed result ≡ fails_next self.old.1 }
     {
         let _holdings = &self.holdings;

@@ -11,9 +11,9 @@ ghost use Rattle.std.specs.Ordering.{nat_cmp, is_lt};
 ghost use Rattle.ps_rows.specs.Source.{Key as Object};
 ghost use Rattle.ps_client_log.specs.Images.{key_eq};
 ghost use Rattle.ps_client_log.specs.Rooms.{kept_by};
-ghost use Rattle.ps_client_log.specs.Rows.{HeldCopy, Holds, object_of, place_cmp, IsLatestContent, by_object, AreInOrder, row_at};
+ghost use Rattle.ps_client_log.specs.Rows.{HeldCopy, BucketHolds, object_of, place_cmp, IsLatestContent, by_object, AreInOrder, shown_at};
 ghost use Rattle.ps_client_log.specs.Soundness.{same_row};
-ghost use Rattle.ps_client_log.specs.Seeing.{copy_of, copies_in, copies_at, copies_of, HoldsKeysOnce, noted_place, is_past, seen, all_seen, is_there};
+ghost use Rattle.ps_client_log.specs.Seeing.{held_copy, copies_in, copies_at, copies_of, HoldsKeysOnce, noted_place, is_past, noted_after, all_seen, is_there};
 ghost use Rattle.ps_client_log.specs.Lending.{object_at, lent_cmp, note_at, noted, row_from, row_noted};
 
 use crate::buckets::Buckets;
@@ -68,7 +68,7 @@ fn see<'a>(
     key: &'a Key,
     entry: &'a Entry,
 ) -> Result<(), Memory>
-    ensures { OnOk result ((object : Object) → noted rows.new object ≡ seen object (noted rows.old object) (copy_of bucket.now (key.now, entry.now))) }
+    ensures { OnOk result ((object : Object) → noted rows.new object ≡ noted_after object (noted rows.old object) (held_copy bucket.now (key.now, entry.now))) }
 {
     let object = (&key.kind, &key.id);
     let subkey = &key.subkey;
@@ -160,8 +160,8 @@ fn rows_of<'a>(
 pub fn held_rows(alloc: Global, holdings: &Holdings) -> Result<Vec<Shown>, Memory>
     ensures in_order { IfOk result (λ rows. AreInOrder rows.items) }
     ensures distinct { IfOk result (λ rows. IsDistinct same_row rows.items) }
-    ensures latest { IfOk result (λ rows. (object : Object) → IfSome (row_at object rows.items) (IsLatestContent (kept_by holdings.now) object)) }
-    ensures all { IfOk result (λ rows. (copy : HeldCopy) → Holds (kept_by holdings.now) copy → IsSome (row_at (object_of copy) rows.items)) }
+    ensures latest { IfOk result (λ rows. (object : Object) → IfSome (shown_at object rows.items) (IsLatestContent (kept_by holdings.now) object)) }
+    ensures all { IfOk result (λ rows. (copy : HeldCopy) → BucketHolds (kept_by holdings.now) copy → IsSome (shown_at (object_of copy) rows.items)) }
 {
     let latest = latest_copies(alloc, &holdings.buckets)?;
     rows_of(alloc, latest)

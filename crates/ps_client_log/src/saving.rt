@@ -3,9 +3,9 @@
 ghost use Rattle.std.specs.Prelude.{◌≡◌, ℕ, ◌+◌, ◌%◌, ◌^◌, List, IfOk, OnOk, map, bytes_eq};
 ghost use Rattle.std.specs.List.{All, IsDistinct};
 ghost use Rattle.ps_bucket_log.specs.Ops.{same_key};
-ghost use Rattle.ps_client_log.specs.Kept.{held_sum, bucket_in, kept_of};
+ghost use Rattle.ps_client_log.specs.Kept.{held_sum, bucket_named, kept_of};
 ghost use Rattle.ps_client_log.specs.Images.{image_of, bucket_found};
-ghost use Rattle.ps_client_log.specs.Saving.{held_of, keys_held, names_of, IsBucketOf, Adds};
+ghost use Rattle.ps_client_log.specs.Saving.{held_of, keys_held, state_names, IsBucketOf, AddsBucket};
 ghost use Rattle.ps_client_log.specs.Soundness.{IsSoundState};
 ghost use Rattle.ps_client_log.specs.Logs.{IsHeld};
 ghost use Rattle.ps_client_log.specs.Rooms.{kept_by};
@@ -88,7 +88,7 @@ fn add_state(
     name: &Text,
     slot: &Slot,
 ) -> Result<(), Memory>
-    ensures { OnOk result (Adds name.now slot.now states.old states.new) }
+    ensures { OnOk result (AddsBucket name.now slot.now states.old states.new) }
 {
     if slot.there {
         states.push(bucket_state(alloc, name, &slot.image)?)?;
@@ -98,8 +98,8 @@ fn add_state(
 
 // The states of all buckets.
 fn states_of(alloc: Global, buckets: &Buckets) -> Result<Items<BucketState>, Memory>
-    ensures kept { IfOk result (λ states. (name : List ℕ) → bucket_in states name ≡ bucket_found buckets.now name) }
-    ensures names { IfOk result (λ states. IsDistinct bytes_eq (names_of states)) }
+    ensures kept { IfOk result (λ states. (name : List ℕ) → bucket_named states name ≡ bucket_found buckets.now name) }
+    ensures names { IfOk result (λ states. IsDistinct bytes_eq (state_names states)) }
     ensures keys { IfOk result (λ states. All (λ bucket. IsDistinct same_key (keys_held bucket)) states) }
 {
     let mut states = Items::new(alloc);

@@ -1,5 +1,5 @@
 ghost use Rattle.std.specs.Prelude.{◌≡◌, ◌+◌, ◌≤◌, Some, None, OnOk, fold, length, unwrap_or};
-ghost use Rattle.ps_bucket_log.specs.Buckets.{after, fresh};
+ghost use Rattle.ps_bucket_log.specs.Buckets.{after, fresh_bucket};
 ghost use Rattle.ps_client_log.specs.Images.{slot_bucket, slot_room};
 
 use crate::Hashing;
@@ -38,7 +38,7 @@ impl Slot {
     // The bucket takes operations, one after another; it begins with them where it was not there.
     pub fn take(&mut self, ops: Vec<Op>)
         requires { length ops.items ≤ slot_room self.old }
-        ensures bucket { slot_bucket self.new ≡ Some (fold after (unwrap_or (slot_bucket self.old) fresh) ops.items) }
+        ensures bucket { slot_bucket self.new ≡ Some (fold after (unwrap_or (slot_bucket self.old) fresh_bucket) ops.items) }
         ensures room { slot_room self.old ≤ slot_room self.new + length ops.items }
     {
         if !self.there {

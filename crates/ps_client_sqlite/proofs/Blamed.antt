@@ -12,7 +12,7 @@ use Rattle.ps_client_lines.specs.declared.faults.RowsFault.{RowsFault}
 use Rattle.ps_client_lines.specs.declared.faults.RowsFault.TheVariants as rows
 use Rattle.ps_client_lines.specs.declared.rows.Rows.{Rows}
 use Rattle.ps_client_lines.specs.Rows as cell
-use Rattle.ps_client_lines.specs.Refusing.{HasOther, HasTwins, HasFall, IsBucketRow, IsQueuedRow, IsShownRow, IsAimRow, IsEntryRow, HasBadBucket, HasBadEntry, HasBadWrite, HasBadAim, HasBadShown, AreInOrder, Blames}
+use Rattle.ps_client_lines.specs.Refusing.{HasOther, HasTwins, HasFall, IsBucketRow, IsQueuedRow, IsShownRow, IsAimRow, IsEntryRow, HasBadBucket, HasBadEntry, HasBadWrite, HasBadAim, HasBadShown, StandInOrder, Blames}
 use Rattle.ps_client_sqlite.specs.declared.faults.StoreFault.{StoreFault}
 use Rattle.ps_client_sqlite.specs.declared.faults.StoreFault.TheVariants.{Failed, BadState, Memory}
 use Rattle.ps_client_sqlite.specs.Reading.{Alike, AreCells, AreRead, AreTablesRead}
@@ -61,7 +61,7 @@ no_twins count (at, other, before, within, same) = absurd (omega (arith, within)
 no_fall : HasFall [] → ⊥
 no_fall (at, other, a, b, before, within, first, second, low) = absurd (omega (arith, within))
 
-in_order : AreInOrder []
+in_order : StandInOrder []
 in_order = λ i j d before within. absurd (omega arith)
 
 none_alike : (cells : List (List Cell)) → Alike AreCells [] cells → cells ≡ []
@@ -95,7 +95,7 @@ no_shown (inr twins) = no_twins 2 twins
 none_blamed : (all : Rows) (table : ℕ) → all.buckets ≡ [] → all.entries ≡ [] → all.queue ≡ [] → all.aim ≡ [] → all.shown ≡ [] → Blames all (rows.BadState table) → ⊥
 none_blamed all table buckets entries queue aim shown (inl (inl (is, bad))) = no_bucket (subst HasBadBucket buckets bad)
 none_blamed all table buckets entries queue aim shown (inl (inr (is, before, bad))) =
-    no_entry all.buckets (subst (HasBadEntry all.buckets) entries (bad (subst AreInOrder (sym buckets) in_order) (subst AreInOrder (sym entries) in_order)))
+    no_entry all.buckets (subst (HasBadEntry all.buckets) entries (bad (subst StandInOrder (sym buckets) in_order) (subst StandInOrder (sym entries) in_order)))
 none_blamed all table buckets entries queue aim shown (inr (inl (before, (is, bad)))) = no_write (subst HasBadWrite queue bad)
 none_blamed all table buckets entries queue aim shown (inr (inr (before, (more, inl (is, bad))))) = no_aim (subst HasBadAim aim bad)
 none_blamed all table buckets entries queue aim shown (inr (inr (before, (more, inr (is, target, bad))))) = no_shown (subst HasBadShown shown bad)

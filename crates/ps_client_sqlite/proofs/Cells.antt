@@ -5,8 +5,8 @@ use Rattle.sqlite_value.specs.declared.value.Value.{Value}
 use Rattle.sqlite_value.specs.declared.value.Value.TheVariants as value
 use Rattle.sqlite_value.specs.Order.{Row, column, value_cmp}
 use Rattle.sqlite_value.proofs.OrderLemmas.{value_cmp-Text}
-use Rattle.ps_client_tables.specs.Lines.{AreInOrder as AreSorted}
-use Rattle.ps_client_lines.specs.Refusing.{AreInOrder}
+use Rattle.ps_client_tables.specs.Lines.{AreByFirstColumn as AreSorted}
+use Rattle.ps_client_lines.specs.Refusing.{StandInOrder}
 use Rattle.ps_client_log.specs.declared.states.BucketState.{BucketState}
 use Rattle.ps_client_log.specs.declared.states.Held.{Held}
 use Rattle.ps_client_log.specs.declared.states.Target.{Target}
@@ -17,7 +17,7 @@ use Rattle.ps_client_lines.specs.declared.cells.Cell.TheVariants.{Int, Text, Oth
 use Rattle.ps_client_lines.specs.declared.lines.Queued.{Queued}
 use Rattle.ps_client_lines.specs.Rows as cell
 use Rattle.ps_client_sqlite.specs.Stored.{bucket_columns, entry_columns, queued_columns, aim_columns, shown_columns}
-use Rattle.ps_client_sqlite.specs.Stating.{entries_of}
+use Rattle.ps_client_sqlite.specs.Stating.{held_entries}
 use Rattle.ps_client_sqlite.specs.Reading.{Alike, AreCells, IsCell}
 
 -- one more on both sides
@@ -57,12 +57,12 @@ rows_are cells columns one [] (row ∷ rows) all = absurd all
 rows_are cells columns one (x ∷ xs) [] all = absurd all
 rows_are cells columns one (x ∷ xs) (row ∷ rows) all = λ i. one x row all.0 i ∷ rows_are cells columns one xs rows all.1 i
 
-bucket_is : (bucket : BucketState) (row : Row) → AreCells row (cell.bucket_row (cell.line_of bucket)) → row ≡ bucket_columns bucket.name (bucket.position.0, bucket.added.0)
+bucket_is : (bucket : BucketState) (row : Row) → AreCells row (cell.bucket_row (cell.line_of_bucket bucket)) → row ≡ bucket_columns bucket.name (bucket.position.0, bucket.added.0)
 unfolding value_of IsPlain
 bucket_is bucket row all = values_are row _ all (tt, (tt, (tt, tt)))
 
 pub buckets_are : (buckets : List BucketState) (rows : List Row) → Alike AreCells rows (cell.bucket_rows buckets) → rows ≡ map (λ b. bucket_columns b.name (b.position.0, b.added.0)) buckets
-buckets_are = rows_are (λ b. cell.bucket_row (cell.line_of b)) (λ b. bucket_columns b.name (b.position.0, b.added.0)) bucket_is
+buckets_are = rows_are (λ b. cell.bucket_row (cell.line_of_bucket b)) (λ b. bucket_columns b.name (b.position.0, b.added.0)) bucket_is
 
 entry_is : (entry : List ℕ × Held) (row : Row) → AreCells row (cell.entry_row entry.0 entry.1) → row ≡ entry_columns (entry.0, entry.1.key) entry.1
 unfolding value_of IsPlain
@@ -72,14 +72,14 @@ mapped_on : {X Y Z : Type 0} (g : Y → Z) (f : X → Y) (xs : List X) (ys : Lis
 mapped_on g f [] ys = refl
 mapped_on g f (x ∷ xs) ys = ap (λ zs. g (f x) ∷ zs) (mapped_on g f xs ys)
 
-each_entry : (buckets : List BucketState) → cell.entry_rows buckets ≡ map (λ e. cell.entry_row e.0 e.1) (entries_of buckets)
+each_entry : (buckets : List BucketState) → cell.entry_rows buckets ≡ map (λ e. cell.entry_row e.0 e.1) (held_entries buckets)
 each_entry [] = refl
 each_entry (bucket ∷ buckets) =
-    ap (λ (rows : List (List Cell)). cell.held_rows bucket ++ rows) (each_entry buckets) ∙ mapped_on (λ (e : List ℕ × Held). cell.entry_row e.0 e.1) (λ held. (bucket.name, held)) bucket.held (entries_of buckets)
+    ap (λ (rows : List (List Cell)). cell.held_rows bucket ++ rows) (each_entry buckets) ∙ mapped_on (λ (e : List ℕ × Held). cell.entry_row e.0 e.1) (λ held. (bucket.name, held)) bucket.held (held_entries buckets)
 
-pub entries_are : (buckets : List BucketState) (rows : List Row) → Alike AreCells rows (cell.entry_rows buckets) → rows ≡ map (λ e. entry_columns (e.0, e.1.key) e.1) (entries_of buckets)
+pub entries_are : (buckets : List BucketState) (rows : List Row) → Alike AreCells rows (cell.entry_rows buckets) → rows ≡ map (λ e. entry_columns (e.0, e.1.key) e.1) (held_entries buckets)
 entries_are buckets rows all =
-    rows_are (λ (e : List ℕ × Held). cell.entry_row e.0 e.1) (λ e. entry_columns (e.0, e.1.key) e.1) entry_is (entries_of buckets) rows (subst (λ (cs : List (List Cell)). Alike AreCells rows cs) (each_entry buckets) all)
+    rows_are (λ (e : List ℕ × Held). cell.entry_row e.0 e.1) (λ e. entry_columns (e.0, e.1.key) e.1) entry_is (held_entries buckets) rows (subst (λ (cs : List (List Cell)). Alike AreCells rows cs) (each_entry buckets) all)
 
 queued_is : (line : Queued) (row : Row) → AreCells row (cell.queued_row line) → row ≡ queued_columns line.seq line.text
 unfolding value_of IsPlain
@@ -121,7 +121,7 @@ first_text [] text more all = absurd all
 first_text (v ∷ row) text more all = all.0.0
 
 -- cells of rows in order stand in order
-pub cells_in_order : (rows : List Row) (cells : List (List Cell)) → Alike AreCells rows cells → AreSorted rows → AreInOrder cells
+pub cells_in_order : (rows : List Row) (cells : List (List Cell)) → Alike AreCells rows cells → AreSorted rows → StandInOrder cells
 cells_in_order rows cells all sorted i j d before within first second x y is other =
     let inside : i < length cells = omega arith in
     let a = first_text (get_or rows i []) first x (subst (AreCells (get_or rows i [])) is (alike_at AreCells rows cells i [] d all inside)) in

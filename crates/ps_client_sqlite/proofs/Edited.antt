@@ -9,7 +9,7 @@ use Rattle.ps_client_log.specs.Soundness.{IsSoundState}
 use Rattle.ps_client_log.specs.Kept.{Kept, kept_of}
 use Rattle.ps_client_lines.specs.declared.lines.Queued.{Queued}
 use Rattle.ps_client_tables.specs.Tables.{tables_in}
-use Rattle.ps_client_sqlite.specs.Stored.{Holds}
+use Rattle.ps_client_sqlite.specs.Stored.{TablesHold}
 use Rattle.ps_client_sqlite.specs.Steps.{LeavesOr}
 use Rattle.ps_client_sqlite.specs.Stating.{stored_of}
 use Rattle.ps_client_sqlite.specs.Keeping.{Counts, LeavesEdited}
@@ -17,7 +17,7 @@ use Rattle.ps_client_sqlite.specs.Keeping.{Counts, LeavesEdited}
 -- what a crash leaves of a keeper that made edits
 pub crash_edited : (old new : Connected) (state : State) (writes : List Queued) (kept : Kept) → kept_of state ≡ kept → LeavesOr old new (stored_of state writes) → LeavesEdited old new kept
 crash_edited old new state writes kept made leaves disk alive db may =
-    elim (leaves disk alive db may) as (λ _. old.may_leave db ⊎ ((s : State) × (w : List Queued) × (kept_of s ≡ kept) × Holds (stored_of s w) (tables_in db))) [
+    elim (leaves disk alive db may) as (λ _. old.may_leave db ⊎ ((s : State) × (w : List Queued) × (kept_of s ≡ kept) × TablesHold (stored_of s w) (tables_in db))) [
       | inl was ↦ inl was
       | inr holds ↦ inr (state, writes, made, holds)
     ]

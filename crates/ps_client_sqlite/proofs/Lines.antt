@@ -11,18 +11,18 @@ use Rattle.ps_rows.specs.declared.changes.Change.{Change}
 use Rattle.ps_changes.specs.LongLines.{IsLongChange}
 use Rattle.ps_changes.specs.Writing.{change_text}
 use Rattle.ps_client_lines.specs.declared.lines.Queued.{Queued}
-use Rattle.ps_client_lines.specs.Holding.{AreRising, IsTextOf}
-use Rattle.ps_client_sqlite.specs.Numbering.{changes_of, texts_of, numbers_of, last_number, last_of, first_numbers, numbered, Pushes}
+use Rattle.ps_client_lines.specs.Holding.{AreRising, TextIsItsChange}
+use Rattle.ps_client_sqlite.specs.Numbering.{queued_changes, texts_of, queued_numbers, last_number, last_of, first_numbers, with_next_number, Pushes}
 
 abbrev Spells : List ℕ → Change → Type 0
 Spells text change = (text ≡ change_text change) ⊎ IsLongChange text change
 
-spelled : (x : Queued) (text : List ℕ) (change : Change) → x.change ≡ change → x.text ≡ text → Spells text change → IsTextOf x
+spelled : (x : Queued) (text : List ℕ) (change : Change) → x.change ≡ change → x.text ≡ text → Spells text change → TextIsItsChange x
 spelled x text change same is it =
     subst (λ (c : Change). Spells x.text c) (sym same) (subst (λ (t : List ℕ). Spells t change) (sym is) it)
 
-each_spelled : (old new : List Queued) (text : List ℕ) (change : Change) → changes_of new ≡ changes_of old ++ change ∷ [] → texts_of new ≡ texts_of old ++ text ∷ []
-    → AllByRecursion IsTextOf old → Spells text change → AllByRecursion IsTextOf new
+each_spelled : (old new : List Queued) (text : List ℕ) (change : Change) → queued_changes new ≡ queued_changes old ++ change ∷ [] → texts_of new ≡ texts_of old ++ text ∷ []
+    → AllByRecursion TextIsItsChange old → Spells text change → AllByRecursion TextIsItsChange new
 each_spelled [] [] text change changes texts all it = tt
 each_spelled [] (x ∷ []) text change changes texts all it =
     (spelled x text change (ap (λ (l : List Change). get_or l 0 change) changes) (ap (λ (l : List (List ℕ)). get_or l 0 text) texts) it, tt)
@@ -33,20 +33,20 @@ each_spelled (o ∷ old) (x ∷ new) text change changes texts all it = (
   each_spelled old new text change (ap (λ (l : List Change). drop 1 l) changes) (ap (λ (l : List (List ℕ)). drop 1 l) texts) all.1 it,
 )
 
-pub texts_pushed : (old new : List Queued) (text : List ℕ) (change : Change) → Pushes old new text change → All IsTextOf old → text ≡ change_text change → All IsTextOf new
+pub texts_pushed : (old new : List Queued) (text : List ℕ) (change : Change) → Pushes old new text change → All TextIsItsChange old → text ≡ change_text change → All TextIsItsChange new
 texts_pushed old new text change pushes all is =
-    All-from_recursion IsTextOf new (each_spelled old new text change pushes.changes pushes.texts (recursion_from_All IsTextOf old all) (inl is))
+    All-from_recursion TextIsItsChange new (each_spelled old new text change pushes.changes pushes.texts (recursion_from_All TextIsItsChange old all) (inl is))
 
 pub rising_popped : (lines : List Queued) → AreRising lines → AreRising (drop 1 lines)
 rising_popped [] up = up
 rising_popped (line ∷ lines) up = λ i j d below within. up (suc i) (suc j) d (omega arith) (omega arith)
 
-pub texts_popped : (lines : List Queued) → All IsTextOf lines → All IsTextOf (drop 1 lines)
+pub texts_popped : (lines : List Queued) → All TextIsItsChange lines → All TextIsItsChange (drop 1 lines)
 texts_popped [] all = all
 texts_popped (line ∷ lines) all = λ k d within. all (suc k) d (omega arith)
 
-pub texts_if_pushed : {E : Type 0} (old : List Queued) (text : List ℕ) (change copy : Change) (result : Result (List Queued) E) → All IsTextOf old → text ≡ change_text change → copy ≡ change
-    → IfOk result (λ new. Pushes old new text copy) → IfOk result (All IsTextOf)
+pub texts_if_pushed : {E : Type 0} (old : List Queued) (text : List ℕ) (change copy : Change) (result : Result (List Queued) E) → All TextIsItsChange old → text ≡ change_text change → copy ≡ change
+    → IfOk result (λ new. Pushes old new text copy) → IfOk result (All TextIsItsChange)
 texts_if_pushed old text change copy (Ok new) all is same pushes = texts_pushed old new text copy pushes all (is ∙ ap change_text (sym same))
 texts_if_pushed old text change copy (Err e) all is same pushes = tt
 
@@ -59,12 +59,12 @@ mapped : (found : Option Queued) → option_map_or (λ (n : ℤ). n) (option_map
 mapped None = refl
 mapped (Some line) = refl
 
-last_same : (lines : List Queued) → last_of (numbers_of lines) ≡ last_number lines
+last_same : (lines : List Queued) → last_of (queued_numbers lines) ≡ last_number lines
 last_same lines =
-    ap (λ k. option_map_or (λ (n : ℤ). n) (slice_get (numbers_of lines) (k - 1)) (pos 0)) (length-map lines number)
+    ap (λ k. option_map_or (λ (n : ℤ). n) (slice_get (queued_numbers lines) (k - 1)) (pos 0)) (length-map lines number)
     ∙ ap (λ (o : Option ℤ). option_map_or (λ (n : ℤ). n) o (pos 0)) (slice_get-map number lines (length lines - 1)) ∙ mapped (slice_get lines (length lines - 1))
 
-longer : (old new : List Queued) (text : List ℕ) → texts_of new ≡ texts_of old ++ text ∷ [] → length new ≡ length (numbers_of old) + 1
+longer : (old new : List Queued) (text : List ℕ) → texts_of new ≡ texts_of old ++ text ∷ [] → length new ≡ length (queued_numbers old) + 1
 longer old new text texts =
     sym (length-map new (λ line. line.text)) ∙ ap length texts ∙ length-append (texts_of old) (text ∷ [])
     ∙ ap (λ n. n + 1) (length-map old (λ line. line.text) ∙ sym (length-map old number))
@@ -72,27 +72,27 @@ longer old new text texts =
 abbrev greatest : ℤ
 greatest = pos 9223372036854775807
 
-numbers_pushed : (old new : List Queued) → length new ≡ length (numbers_of old) + 1 → (last_number old ≢ greatest → numbers_of new ≡ numbers_of old ++ (last_number old +ℤ pos 1) ∷ [])
-    → (last_number old ≡ greatest → numbers_of new ≡ first_numbers (length new)) → numbers_of new ≡ numbered (numbers_of old)
-numbers_pushed old new long next anew = by (int_eq (last_of (numbers_of old)) greatest) refl
+numbers_pushed : (old new : List Queued) → length new ≡ length (queued_numbers old) + 1 → (last_number old ≢ greatest → queued_numbers new ≡ queued_numbers old ++ (last_number old +ℤ pos 1) ∷ [])
+    → (last_number old ≡ greatest → queued_numbers new ≡ first_numbers (length new)) → queued_numbers new ≡ with_next_number (queued_numbers old)
+numbers_pushed old new long next anew = by (int_eq (last_of (queued_numbers old)) greatest) refl
   where
-    by : (b : Bool) → int_eq (last_of (numbers_of old)) greatest ≡ b
-        → numbers_of new ≡ cond b (first_numbers (length (numbers_of old) + 1)) (numbers_of old ++ (last_of (numbers_of old) +ℤ pos 1) ∷ [])
-    by true is = anew (sym (last_same old) ∙ (Decides-int_eq (last_of (numbers_of old)) greatest).0 is) ∙ ap first_numbers long
+    by : (b : Bool) → int_eq (last_of (queued_numbers old)) greatest ≡ b
+        → queued_numbers new ≡ cond b (first_numbers (length (queued_numbers old) + 1)) (queued_numbers old ++ (last_of (queued_numbers old) +ℤ pos 1) ∷ [])
+    by true is = anew (sym (last_same old) ∙ (Decides-int_eq (last_of (queued_numbers old)) greatest).0 is) ∙ ap first_numbers long
     by false is =
-        next (λ h. true≢false (sym ((Decides-int_eq (last_of (numbers_of old)) greatest).1 (last_same old ∙ h)) ∙ is))
-        ∙ ap (λ n. numbers_of old ++ (n +ℤ pos 1) ∷ []) (sym (last_same old))
+        next (λ h. true≢false (sym ((Decides-int_eq (last_of (queued_numbers old)) greatest).1 (last_same old ∙ h)) ∙ is))
+        ∙ ap (λ n. queued_numbers old ++ (n +ℤ pos 1) ∷ []) (sym (last_same old))
 
 pub numbers_if_pushed : {E : Type 0} (old : List Queued) (text : List ℕ) (change : Change) (result : Result (List Queued) E) → IfOk result (λ new. Pushes old new text change)
-    → (last_number old ≢ greatest → IfOk result (λ new. numbers_of new ≡ numbers_of old ++ (last_number old +ℤ pos 1) ∷ []))
-    → (last_number old ≡ greatest → IfOk result (λ new. numbers_of new ≡ first_numbers (length new))) → IfOk result (λ new. numbers_of new ≡ numbered (numbers_of old))
+    → (last_number old ≢ greatest → IfOk result (λ new. queued_numbers new ≡ queued_numbers old ++ (last_number old +ℤ pos 1) ∷ []))
+    → (last_number old ≡ greatest → IfOk result (λ new. queued_numbers new ≡ first_numbers (length new))) → IfOk result (λ new. queued_numbers new ≡ with_next_number (queued_numbers old))
 numbers_if_pushed old text change (Ok new) pushes next anew = numbers_pushed old new (longer old new text pushes.texts) next anew
 numbers_if_pushed old text change (Err e) pushes next anew = tt
 
-pub numbers_popped : (lines : List Queued) → numbers_of (drop 1 lines) ≡ drop 1 (numbers_of lines)
+pub numbers_popped : (lines : List Queued) → queued_numbers (drop 1 lines) ≡ drop 1 (queued_numbers lines)
 numbers_popped [] = refl
 numbers_popped (line ∷ lines) = refl
 
-pub changes_popped : (lines : List Queued) → changes_of (drop 1 lines) ≡ drop 1 (changes_of lines)
+pub changes_popped : (lines : List Queued) → queued_changes (drop 1 lines) ≡ drop 1 (queued_changes lines)
 changes_popped [] = refl
 changes_popped (line ∷ lines) = refl

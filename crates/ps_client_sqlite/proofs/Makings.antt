@@ -19,8 +19,8 @@ use Rattle.ps_client_log.proofs.Keys.{key_eq-same}
 use Rattle.ps_client_lines.specs.declared.lines.Queued.{Queued}
 use Rattle.ps_client_sqlite.specs.declared.writes.RowWrite.{RowWrite}
 use Rattle.ps_client_sqlite.specs.declared.writes.RowWrite.TheVariants.{PutAim}
-use Rattle.ps_client_sqlite.specs.Stored.{Stored, with_write, with_writes, same_place, same_object, IsWritable, Differs}
-use Rattle.ps_client_sqlite.specs.Stating.{found, entries_of, stored_of}
+use Rattle.ps_client_sqlite.specs.Stored.{Stored, with_write, with_writes, same_place, same_object, IsWritableRow, Differs}
+use Rattle.ps_client_sqlite.specs.Stating.{found, held_entries, stored_of}
 use Rattle.ps_client_sqlite.proofs.Naming.{entry_equal}
 use Rattle.ps_client_sqlite.proofs.Bounds.{positions_of, ids_of}
 use Rattle.ps_client_sqlite.specs.Differing.{rows_at, changed, AreChanges}
@@ -40,12 +40,12 @@ of_bucket : (name : List ℕ) (held : List Held) → map (entry_pair name) held 
 of_bucket name [] = refl
 of_bucket name (h ∷ held) = ap (λ l. entry_pair name h ∷ l) (of_bucket name held)
 
-pub all_entries : (buckets : List BucketState) → entry_pairs buckets ≡ map (λ e. (place e, e.1)) (entries_of buckets)
+pub all_entries : (buckets : List BucketState) → entry_pairs buckets ≡ map (λ e. (place e, e.1)) (held_entries buckets)
 all_entries [] = refl
 all_entries (b ∷ buckets) =
     ap (λ l. map (entry_pair b.name) b.held ++ l) (all_entries buckets)
-    ∙ ap (λ l. l ++ map (λ e. (place e, e.1)) (entries_of buckets)) (of_bucket b.name b.held)
-    ∙ sym (map-append (λ e. (place e, e.1)) (map (λ h. (b.name, h)) b.held) (entries_of buckets))
+    ∙ ap (λ l. l ++ map (λ e. (place e, e.1)) (held_entries buckets)) (of_bucket b.name b.held)
+    ∙ sym (map-append (λ e. (place e, e.1)) (map (λ h. (b.name, h)) b.held) (held_entries buckets))
 
 pub place_same : place_eq ≡ (λ a b. same_place a.0 a.1 b.0 b.1)
 place_same = λ i a b. bytes_eq a.0 b.0 && key_eq-same a.1 b.1 i
@@ -105,11 +105,11 @@ pub buckets_found : (buckets : List BucketState) (name : List ℕ) → rows_at b
 buckets_found buckets name = rows_found bytes_eq (λ (b : BucketState). b.name) (λ (b : BucketState). (b.position.0, b.added.0)) (λ _. None) buckets name
 
 pub entries_found : (buckets : List BucketState) (name : List ℕ) (key : Key)
-    → rows_at place_eq (entry_pairs buckets) (name, key) ≡ found {K = List ℕ × Key} (λ a b. same_place a.0 a.1 b.0 b.1) (λ entry. (entry.0, entry.1.key)) (λ entry. entry.1) (entries_of buckets) (name, key)
+    → rows_at place_eq (entry_pairs buckets) (name, key) ≡ found {K = List ℕ × Key} (λ a b. same_place a.0 a.1 b.0 b.1) (λ entry. (entry.0, entry.1.key)) (λ entry. entry.1) (held_entries buckets) (name, key)
 entries_found buckets name key =
     ap (λ eq. rows_at eq (entry_pairs buckets) (name, key)) place_same
     ∙ ap (λ rows. rows_at same_at rows (name, key)) (all_entries buckets)
-    ∙ rows_found same_at place (λ (e : List ℕ × Held). e.1) (λ _. None) (entries_of buckets) (name, key)
+    ∙ rows_found same_at place (λ (e : List ℕ × Held). e.1) (λ _. None) (held_entries buckets) (name, key)
 
 pub queue_found : (lines : List Queued) (seq : ℤ) → rows_at int_eq (map queued_pair lines) seq ≡ found int_eq (λ line. line.seq) (λ line. line.text) lines seq
 queue_found lines seq = rows_found int_eq (λ (l : Queued). l.seq) (λ (l : Queued). l.text) (λ _. None) lines seq
@@ -179,7 +179,7 @@ bucket_now old new changes made name =
     ap (λ (f : List ℕ → Option (ℕ × ℕ)). changed bytes_eq f changes name) (λ i n. sym (buckets_found old n) i) ∙ made.reached name ∙ buckets_found new name
 
 abbrev entry_found : List BucketState → List ℕ × Key → Option Held
-entry_found buckets at = found {K = List ℕ × Key} (λ a b. same_place a.0 a.1 b.0 b.1) (λ entry. (entry.0, entry.1.key)) (λ entry. entry.1) (entries_of buckets) (at.0, at.1)
+entry_found buckets at = found {K = List ℕ × Key} (λ a b. same_place a.0 a.1 b.0 b.1) (λ entry. (entry.0, entry.1.key)) (λ entry. entry.1) (held_entries buckets) (at.0, at.1)
 
 entry_now : (old new : List BucketState) (changes : List ((List ℕ × Key) × Option Held)) → AreChanges place_eq (rows_at place_eq (entry_pairs old)) (rows_at place_eq (entry_pairs new)) changes
     → (at : List ℕ × Key) → changed same_at (entry_found old) changes at ≡ entry_found new at
@@ -237,22 +237,22 @@ all_reached old new was now a b c d e f all =
 
 -- ---- no write has a number past the greatest, and each writes what is not so yet
 
-bucket_writable : (changes : List (List ℕ × Option (ℕ × ℕ))) → AllByRecursion (λ c. IfSome c.1 (λ b. b.0 ≤ greatest)) changes → AllByRecursion IsWritable (writes_of bucket_write changes)
+bucket_writable : (changes : List (List ℕ × Option (ℕ × ℕ))) → AllByRecursion (λ c. IfSome c.1 (λ b. b.0 ≤ greatest)) changes → AllByRecursion IsWritableRow (writes_of bucket_write changes)
 bucket_writable [] all = tt
 bucket_writable ((name, None) ∷ changes) all = (tt, bucket_writable changes all.1)
 bucket_writable ((name, Some b) ∷ changes) all = (all.0, bucket_writable changes all.1)
 
-entry_writable : (changes : List ((List ℕ × Key) × Option Held)) → AllByRecursion (λ c. IfSome c.1 (λ held. held.id.0 ≤ greatest)) changes → AllByRecursion IsWritable (writes_of entry_write changes)
+entry_writable : (changes : List ((List ℕ × Key) × Option Held)) → AllByRecursion (λ c. IfSome c.1 (λ held. held.id.0 ≤ greatest)) changes → AllByRecursion IsWritableRow (writes_of entry_write changes)
 entry_writable [] all = tt
 entry_writable ((at, None) ∷ changes) all = (tt, entry_writable changes all.1)
 entry_writable ((at, Some held) ∷ changes) all = (all.0, entry_writable changes all.1)
 
-queue_writable : (changes : List (ℤ × Option (List ℕ))) → AllByRecursion IsWritable (writes_of queued_write changes)
+queue_writable : (changes : List (ℤ × Option (List ℕ))) → AllByRecursion IsWritableRow (writes_of queued_write changes)
 queue_writable [] = tt
 queue_writable ((seq, None) ∷ changes) = (tt, queue_writable changes)
 queue_writable ((seq, Some text) ∷ changes) = (tt, queue_writable changes)
 
-shown_writable : (changes : List ((List ℕ × List ℕ) × Option (List ℕ))) → AllByRecursion IsWritable (writes_of shown_write changes)
+shown_writable : (changes : List ((List ℕ × List ℕ) × Option (List ℕ))) → AllByRecursion IsWritableRow (writes_of shown_write changes)
 shown_writable [] = tt
 shown_writable ((at, None) ∷ changes) = (tt, shown_writable changes)
 shown_writable ((at, Some content) ∷ changes) = (tt, shown_writable changes)
@@ -290,18 +290,18 @@ with_target : (P : RowWrite → Type 0) (before after : Target) (old new : List 
 with_target P before after old new (inl m) all put = subst (All P) (sym m.1) all
 with_target P before after old new (inr m) all put = more P old new (PutAim after ∷ []) m.1 all (put m.0, tt)
 
-pub all_writable : (old new : State) (was now : List Queued) (a b c d e f : List RowWrite) → IsSoundState new → AreAll old new was now a b c d e f → All IsWritable f
+pub all_writable : (old new : State) (was now : List Queued) (a b c d e f : List RowWrite) → IsSoundState new → AreAll old new was now a b c d e f → All IsWritableRow f
 all_writable old new was now a b c d e f sound all =
-    let none : All IsWritable a = subst (All IsWritable) (sym all.none) (All-nil IsWritable) in
-    let one : All IsWritable b = more IsWritable a b (writes_of bucket_write all.buckets.0) all.buckets.2 none (bucket_writable all.buckets.0
+    let none : All IsWritableRow a = subst (All IsWritableRow) (sym all.none) (All-nil IsWritableRow) in
+    let one : All IsWritableRow b = more IsWritableRow a b (writes_of bucket_write all.buckets.0) all.buckets.2 none (bucket_writable all.buckets.0
     (changes_all bytes_eq (λ name b. b.0 ≤ greatest) (map bucket_pair old.buckets) (map bucket_pair new.buckets) all.buckets.0 all.buckets.1
     (λ at. weaker (λ p. p.1.0 ≤ greatest) (λ p. bytes_eq p.0 at ≡ true → p.1.0 ≤ greatest) (λ p within same. within) (map bucket_pair new.buckets) (positions_of new sound)))) in
-    let two : All IsWritable c = more IsWritable b c (writes_of entry_write all.entries.0) all.entries.2 one (entry_writable all.entries.0
+    let two : All IsWritableRow c = more IsWritableRow b c (writes_of entry_write all.entries.0) all.entries.2 one (entry_writable all.entries.0
     (changes_all place_eq (λ at held. held.id.0 ≤ greatest) (entry_pairs old.buckets) (entry_pairs new.buckets) all.entries.0 all.entries.1
     (λ at. weaker (λ p. p.1.id.0 ≤ greatest) (λ p. place_eq p.0 at ≡ true → p.1.id.0 ≤ greatest) (λ p within same. within) (entry_pairs new.buckets) (ids_of new sound)))) in
-    let three : All IsWritable d = more IsWritable c d (writes_of queued_write all.queue.0) all.queue.2 two (queue_writable all.queue.0) in
-    let four : All IsWritable e = with_target IsWritable old.target new.target d e all.target three (λ apart. sound.kept.target) in
-    more IsWritable e f (writes_of shown_write all.shown.0) all.shown.2 four (shown_writable all.shown.0)
+    let three : All IsWritableRow d = more IsWritableRow c d (writes_of queued_write all.queue.0) all.queue.2 two (queue_writable all.queue.0) in
+    let four : All IsWritableRow e = with_target IsWritableRow old.target new.target d e all.target three (λ apart. sound.kept.target) in
+    more IsWritableRow e f (writes_of shown_write all.shown.0) all.shown.2 four (shown_writable all.shown.0)
 
 pub all_differ : (old new : State) (was now : List Queued) (a b c d e f : List RowWrite) → AreAll old new was now a b c d e f → All (Differs (stored_of old was)) f
 all_differ old new was now a b c d e f all =

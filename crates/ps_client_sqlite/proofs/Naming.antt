@@ -14,7 +14,7 @@ use Rattle.sqlite_value.proofs.OrderLemmas.{value_cmp_total, value_cmp-Text, val
 use Rattle.sqlite_trees.specs.Tree.{rowid, has_rowid}
 use Rattle.ps_bucket_log.specs.declared.ops.Key.{Key}
 use Rattle.ps_bucket_log.specs.Ops.{same_key}
-use Rattle.ps_client_tables.specs.Tables.{has_text, is_bucket}
+use Rattle.ps_client_tables.specs.Tables.{column_has_text, is_bucket}
 use Rattle.ps_client_log.specs.declared.states.Held.{Held}
 use Rattle.ps_client_sqlite.specs.Stored.{has_entry, has_shown, same_place, same_object, bucket_columns, entry_columns, queued_columns, shown_columns}
 use Rattle.ps_client_sqlite.proofs.Placing.{AreKeys}
@@ -35,7 +35,7 @@ text_tied a b = ap is_eq (value_cmp-Text a b) ∙ sym (texts_ties a b)
 pub int_tied : (a b : ℤ) → is_eq (value_cmp (Int a) (Int b)) ≡ int_eq a b
 int_tied a b = ap is_eq (value_cmp-Int a b)
 
-text_same : (at : ℕ) (a b : List ℕ) (r : Row) → has_text at a r ≡ true → has_text at b r ≡ bytes_eq a b
+text_same : (at : ℕ) (a b : List ℕ) (r : Row) → column_has_text at a r ≡ true → column_has_text at b r ≡ bytes_eq a b
 text_same at a b r h = tied_same (column r at) (Text a) (Text b) h ∙ text_tied a b
 
 texts_equal : (a b : List ℕ) → bytes_eq a b ≡ true → a ≡ b
@@ -69,7 +69,7 @@ shown_equal a b h =
 shown_apart : (a b : List ℕ × List ℕ) (r : Row) → same_object a.0 a.1 b.0 b.1 ≡ false → has_shown a r ≡ true → has_shown b r ≡ false
 shown_apart a b r other h =
     let parts = and_parts _ _ h in
-    ap (λ x. x && has_text 2 b.1 r) (text_same 1 a.0 b.0 r parts.0) ∙ ap (λ x. bytes_eq a.0 b.0 && x) (text_same 2 a.1 b.1 r parts.1) ∙ other
+    ap (λ x. x && column_has_text 2 b.1 r) (text_same 1 a.0 b.0 r parts.0) ∙ ap (λ x. bytes_eq a.0 b.0 && x) (text_same 2 a.1 b.1 r parts.1) ∙ other
 
 pub shown_keys : AreKeys has_shown (λ a b. same_object a.0 a.1 b.0 b.1)
 shown_keys = record { equal = shown_equal; apart = shown_apart }
@@ -100,9 +100,9 @@ entry_apart a b r other h =
     let first = and_parts _ _ h in
     let second = and_parts _ _ first.1 in
     let third = and_parts _ _ second.1 in
-    ap (λ x. x && (has_text 2 b.1.kind r && (has_text 3 b.1.id r && has_text 4 b.1.subkey r))) (text_same 1 a.0 b.0 r first.0)
-    ∙ ap (λ x. bytes_eq a.0 b.0 && (x && (has_text 3 b.1.id r && has_text 4 b.1.subkey r))) (text_same 2 a.1.kind b.1.kind r second.0)
-    ∙ ap (λ x. bytes_eq a.0 b.0 && (bytes_eq a.1.kind b.1.kind && (x && has_text 4 b.1.subkey r))) (text_same 3 a.1.id b.1.id r third.0)
+    ap (λ x. x && (column_has_text 2 b.1.kind r && (column_has_text 3 b.1.id r && column_has_text 4 b.1.subkey r))) (text_same 1 a.0 b.0 r first.0)
+    ∙ ap (λ x. bytes_eq a.0 b.0 && (x && (column_has_text 3 b.1.id r && column_has_text 4 b.1.subkey r))) (text_same 2 a.1.kind b.1.kind r second.0)
+    ∙ ap (λ x. bytes_eq a.0 b.0 && (bytes_eq a.1.kind b.1.kind && (x && column_has_text 4 b.1.subkey r))) (text_same 3 a.1.id b.1.id r third.0)
     ∙ ap (λ x. bytes_eq a.0 b.0 && (bytes_eq a.1.kind b.1.kind && (bytes_eq a.1.id b.1.id && x))) (text_same 4 a.1.subkey b.1.subkey r third.1)
     ∙ sym (regrouped (bytes_eq a.0 b.0) (bytes_eq a.1.kind b.1.kind) (bytes_eq a.1.id b.1.id) (bytes_eq a.1.subkey b.1.subkey)) ∙ other
 
@@ -112,16 +112,16 @@ entry_keys = record { equal = entry_equal; apart = entry_apart }
 -- ---- the same tests on the lines that are read
 
 abbrev pub line_of_bucket : List ℕ → Row → Bool
-line_of_bucket name line = has_text 0 name line
+line_of_bucket name line = column_has_text 0 name line
 
 abbrev pub line_of_entry : List ℕ × Key → Row → Bool
-line_of_entry at line = has_text 0 at.0 line && (has_text 1 at.1.kind line && (has_text 2 at.1.id line && has_text 3 at.1.subkey line))
+line_of_entry at line = column_has_text 0 at.0 line && (column_has_text 1 at.1.kind line && (column_has_text 2 at.1.id line && column_has_text 3 at.1.subkey line))
 
 abbrev pub line_of_write : ℤ → Row → Bool
 line_of_write seq line = is_eq (value_cmp (column line 0) (Int seq))
 
 abbrev pub line_of_shown : List ℕ × List ℕ → Row → Bool
-line_of_shown at line = has_text 0 at.0 line && has_text 1 at.1 line
+line_of_shown at line = column_has_text 0 at.0 line && column_has_text 1 at.1 line
 
 pub bucket_lines : AreLines bytes_eq line_of_bucket bucket_columns
 bucket_lines = record { itself = texts_itself; equal = texts_equal; tests = λ own key value. text_tied own key }

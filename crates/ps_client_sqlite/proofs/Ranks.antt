@@ -6,7 +6,7 @@ use Rattle.std.proofs.lemmas.List.Elements.{All-push}
 use Rattle.std.proofs.lemmas.List.Quantifiers.{all_pairs_push}
 use Rattle.ps_client_lines.specs.declared.lines.Queued.{Queued}
 use Rattle.ps_client_lines.specs.Holding.{AreRising}
-use Rattle.ps_client_sqlite.specs.Numbering.{numbers_of, first_numbers}
+use Rattle.ps_client_sqlite.specs.Numbering.{queued_numbers, first_numbers}
 
 -- a line that is past all comes to the end
 pub rising_push : (lines : List Queued) (x : Queued) → AreRising lines → All (λ line. line.seq <ℤ x.seq) lines → AreRising (lines ++ x ∷ [])
@@ -19,8 +19,8 @@ pub under_push : (lines : List Queued) (was now : ℤ) → All (λ line. line.se
 under_push lines was now low up k d within = let e = low k d within in omega (arith, ints)
 
 -- one number more
-pub numbers_push : (lines : List Queued) (x : Queued) (was : ℤ) → numbers_of lines ≡ first_numbers (length lines) → was ≡ pos (length lines) → x.seq ≡ was +ℤ pos 1
-    → numbers_of (lines ++ x ∷ []) ≡ first_numbers (length (lines ++ x ∷ []))
+pub numbers_push : (lines : List Queued) (x : Queued) (was : ℤ) → queued_numbers lines ≡ first_numbers (length lines) → was ≡ pos (length lines) → x.seq ≡ was +ℤ pos 1
+    → queued_numbers (lines ++ x ∷ []) ≡ first_numbers (length (lines ++ x ∷ []))
 numbers_push lines x was so_far last next =
     let longer : length (lines ++ x ∷ []) ≡ suc (length lines) = length-append lines (x ∷ []) ∙ add-one (length lines) in
     map-append (λ line. line.seq) lines (x ∷ []) ∙ ap (λ (ns : List ℤ). ns ++ x.seq ∷ []) so_far ∙ ap (λ n. first_numbers (length lines) ++ n ∷ []) (next ∙ ap (λ n. n +ℤ pos 1) last)

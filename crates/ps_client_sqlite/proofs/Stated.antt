@@ -23,8 +23,8 @@ use Rattle.ps_client_lines.specs.declared.rows.Rows.{Rows}
 use Rattle.ps_client_lines.specs.Rows as cell
 use Rattle.ps_client_lines.specs.Holding.{AreRowsOf, AreAimRows, AreRising}
 use Rattle.ps_client_lines.proofs.Listing.{distinct_by}
-use Rattle.ps_client_sqlite.specs.Stored.{Holds, IsAim, aim_columns, bucket_columns, entry_columns, queued_columns, shown_columns, has_entry, has_shown, same_place, same_object}
-use Rattle.ps_client_sqlite.specs.Stating.{entries_of, stored_of}
+use Rattle.ps_client_sqlite.specs.Stored.{TablesHold, IsAim, aim_columns, bucket_columns, entry_columns, queued_columns, shown_columns, has_entry, has_shown, same_place, same_object}
+use Rattle.ps_client_sqlite.specs.Stating.{held_entries, stored_of}
 use Rattle.ps_client_sqlite.specs.Reading.{Alike, AreCells, AreRead, AreTablesRead}
 use Rattle.ps_client_sqlite.proofs.Cells.{buckets_are, entries_are, queue_are, shown_are, rows_are, aim_is}
 use Rattle.ps_client_sqlite.proofs.Finding.{shows_listed, short}
@@ -66,15 +66,15 @@ of_bucket : (name own : List ℕ) (held : List Held) → bytes_eq name own ≡ f
 of_bucket name own [] apart = tt
 of_bucket name own (h ∷ held) apart = (apart, of_bucket name own held apart)
 
-of_others : (name : List ℕ) (buckets : List BucketState) → AllByRecursion (λ other. bytes_eq name other ≡ false) (map (λ b. b.name) buckets) → AllByRecursion (λ e. bytes_eq name e.0 ≡ false) (entries_of buckets)
+of_others : (name : List ℕ) (buckets : List BucketState) → AllByRecursion (λ other. bytes_eq name other ≡ false) (map (λ b. b.name) buckets) → AllByRecursion (λ e. bytes_eq name e.0 ≡ false) (held_entries buckets)
 of_others name [] apart = tt
 of_others name (b ∷ buckets) apart =
-    all-append (λ e. bytes_eq name e.0 ≡ false) (map (λ h. (b.name, h)) b.held) (entries_of buckets) (of_bucket name b.name b.held apart.0) (of_others name buckets apart.1)
+    all-append (λ e. bytes_eq name e.0 ≡ false) (map (λ h. (b.name, h)) b.held) (held_entries buckets) (of_bucket name b.name b.held apart.0) (of_others name buckets apart.1)
 
-entries_distinct : (buckets : List BucketState) → IsDistinct bytes_eq (map (λ b. b.name) buckets) → AllByRecursion (λ b. IsDistinct same_key (map (λ h. h.key) b.held)) buckets → IsDistinct same_entry (entries_of buckets)
+entries_distinct : (buckets : List BucketState) → IsDistinct bytes_eq (map (λ b. b.name) buckets) → AllByRecursion (λ b. IsDistinct same_key (map (λ h. h.key) b.held)) buckets → IsDistinct same_entry (held_entries buckets)
 unfolding IsDistinct
 entries_distinct [] names keys = tt
-entries_distinct (b ∷ buckets) names keys = in_bucket b.name b.held (entries_of buckets) keys.0 (of_others b.name buckets names.0) (entries_distinct buckets names.1 keys.1)
+entries_distinct (b ∷ buckets) names keys = in_bucket b.name b.held (held_entries buckets) keys.0 (of_others b.name buckets names.0) (entries_distinct buckets names.1 keys.1)
 
 aim_read : (target : _) (lines : List Row) (rows : List (List Cell)) → AreRead lines rows → AreAimRows target rows → IsAim target lines
 aim_read target lines rows it (inl is) =
@@ -87,13 +87,13 @@ listed : {X : Type 0} (columns : X → Row) (xs : List X) (own : List (List Cell
     → ((read : List Row) → Alike AreCells read own → read ≡ map columns xs) → IsPermutation lines (map columns xs)
 listed columns xs own lines rows it is values = subst (IsPermutation lines) (values it.read (subst (λ (cs : List (List Cell)). Alike AreCells it.read cs) is it.cells)) it.same
 
-pub stated : (tables : Tables) (rows : Rows) (state : State) (writes : List Queued) → AreTablesRead tables rows → AreRowsOf state writes rows → IsSoundState state → AreRising writes → Holds (stored_of state writes) tables
+pub stated : (tables : Tables) (rows : Rows) (state : State) (writes : List Queued) → AreTablesRead tables rows → AreRowsOf state writes rows → IsSoundState state → AreRising writes → TablesHold (stored_of state writes) tables
 stated tables rows state writes read are sound rising = record {
   buckets = shows_listed bytes_eq line_of_bucket bucket_columns bucket_lines (λ b. b.name) (λ b. (b.position.0, b.added.0)) is_bucket bucket_line tables.buckets state.buckets (λ k r. refl)
       (listed (λ b. bucket_columns b.name (b.position.0, b.added.0)) state.buckets (cell.bucket_rows state.buckets) _ rows.buckets read.buckets are.buckets (buckets_are state.buckets))
       (distinct_by (λ b. b.name) bytes_eq state.buckets sound.names);
-  entries = shows_listed {K = List ℕ × Key} (λ a b. same_place a.0 a.1 b.0 b.1) line_of_entry entry_columns entry_lines (λ e. (e.0, e.1.key)) (λ e. e.1) has_entry entry_line tables.entries (entries_of state.buckets) (λ k r. refl)
-      (listed (λ e. entry_columns (e.0, e.1.key) e.1) (entries_of state.buckets) (cell.entry_rows state.buckets) _ rows.entries read.entries are.entries (entries_are state.buckets))
+  entries = shows_listed {K = List ℕ × Key} (λ a b. same_place a.0 a.1 b.0 b.1) line_of_entry entry_columns entry_lines (λ e. (e.0, e.1.key)) (λ e. e.1) has_entry entry_line tables.entries (held_entries state.buckets) (λ k r. refl)
+      (listed (λ e. entry_columns (e.0, e.1.key) e.1) (held_entries state.buckets) (cell.entry_rows state.buckets) _ rows.entries read.entries are.entries (entries_are state.buckets))
       (entries_distinct state.buckets sound.names (recursion_from_All _ state.buckets sound.keys));
   queue = shows_listed int_eq line_of_write queued_columns queue_lines (λ line. line.seq) (λ line. line.text) has_rowid queued_line tables.queue writes (λ k r. refl)
       (listed (λ line. queued_columns line.seq line.text) writes (cell.queue_rows writes) _ rows.queue (record { read = map queued_line tables.queue; same = IsPermutation-same _ _ refl; cells = read.queue }) are.queue (queue_are writes)) (rising_distinct writes rising);

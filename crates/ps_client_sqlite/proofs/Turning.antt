@@ -8,8 +8,8 @@ use Rattle.sqlite.proofs.StateLemmas.{survives_then}
 use Rattle.ps_client_tables.specs.Tables.{Tables, AreTables, tables_in}
 use Rattle.ps_client_tables.specs.Steps.{IsClient, IsLeft, tables_of}
 use Rattle.ps_client_sqlite.specs.declared.writes.RowWrite.{RowWrite}
-use Rattle.ps_client_sqlite.specs.Stored.{Stored, Holds, with_write, with_writes}
-use Rattle.ps_client_sqlite.specs.Steps.{Keeps, Kept, Writes, WritesAll}
+use Rattle.ps_client_sqlite.specs.Stored.{Stored, TablesHold, with_write, with_writes}
+use Rattle.ps_client_sqlite.specs.Steps.{Keeps, KeepsWhileOpen, WritesRow, WritesAll}
 
 pub kept_then : (a b c : State) → KeepsCommit a b → KeepsCommit b c → KeepsCommit a c
 kept_then a b c p q = record { was_open = λ h. p.was_open (q.was_open h); committed = λ h. q.committed h ∙ p.committed (q.was_open h) }
@@ -18,12 +18,12 @@ pub nothing_then : (a b c : State) → Survives a b (λ _. ⊥) → Survives b c
 nothing_then a b c = survives_then a b c (λ _. ⊥) (λ _. ⊥) (λ _. ⊥) (λ _ _ none. none) (λ _ _ none. none)
 
 -- one write more
-pub one_more : (writes : List RowWrite) (i : ℕ) (write : RowWrite) (a b c : Tables) → i < length writes → write ≡ get_or writes i write → WritesAll (take i writes) a b → Writes write b c → WritesAll (take (i + 1) writes) a c
+pub one_more : (writes : List RowWrite) (i : ℕ) (write : RowWrite) (a b c : Tables) → i < length writes → write ≡ get_or writes i write → WritesAll (take i writes) a b → WritesRow write b c → WritesAll (take (i + 1) writes) a c
 one_more writes i write a b c within is first next stored holds =
     let more : take (i + 1) writes ≡ take i writes ++ write ∷ [] = take_more writes i write within ∙ ap (λ w. take i writes ++ w ∷ []) (sym is) in
     let whole : with_writes stored (take (i + 1) writes) ≡ with_write (with_writes stored (take i writes)) write =
     ap (with_writes stored) more ∙ fold-append with_write stored (take i writes) (write ∷ []) in
-    subst (λ s. Holds s c) (sym whole) (next (with_writes stored (take i writes)) (first stored holds))
+    subst (λ s. TablesHold s c) (sym whole) (next (with_writes stored (take i writes)) (first stored holds))
 
 -- ---- a database that a read left as it was
 
@@ -50,18 +50,18 @@ unchanged_then a b c p q = (
 )
 
 -- what the tables keep stands where a read leaves the database as it was
-pub kept_unchanged : (stored : Stored) (a b : State) → (HasCleanDisk b → HasCleanDisk a) → (HasCleanDisk b → IsTrue a.is_open) → (HasCleanDisk b → IsClient a → IsUnchanged a b) → Kept stored a → Kept stored b
+pub kept_unchanged : (stored : Stored) (a b : State) → (HasCleanDisk b → HasCleanDisk a) → (HasCleanDisk b → IsTrue a.is_open) → (HasCleanDisk b → IsClient a → IsUnchanged a b) → KeepsWhileOpen stored a → KeepsWhileOpen stored b
 kept_unchanged stored a b clean opened same kept disk alive =
     let was = kept (clean disk) (opened disk) in
     let unchanged = same disk was.client in
     record {
       client = client_then a b unchanged was.client;
-      rows = subst (Holds stored) (sym (tables_then a b unchanged)) was.rows;
+      rows = subst (TablesHold stored) (sym (tables_then a b unchanged)) was.rows;
       settled = unchanged.0.now_is ∙ was.settled ∙ sym unchanged.0.committed_is;
     }
 
 -- and where one that was refused leaves it so, or as the last commit did
-pub kept_left : (stored : Stored) (a b : State) → (HasCleanDisk b → HasCleanDisk a) → (HasCleanDisk b → IsLeft a b) → Kept stored a → Kept stored b
+pub kept_left : (stored : Stored) (a b : State) → (HasCleanDisk b → HasCleanDisk a) → (HasCleanDisk b → IsLeft a b) → KeepsWhileOpen stored a → KeepsWhileOpen stored b
 kept_left stored a b clean left kept disk alive = elim (left disk) as (λ _. Keeps stored b) [
   | inl same ↦ kept_unchanged stored a b clean (λ _. same.0.was_open) (λ _ _. same) kept disk alive
   | inr undone ↦
@@ -69,7 +69,7 @@ kept_left stored a b clean left kept disk alive = elim (left disk) as (λ _. Kee
       let now : b.now ≡ a.now = (undone.undone alive).0 ∙ sym was.settled in
       record {
         client = record { schema = ap (λ (d : Database). d.schema) now ∙ was.client.schema; tables = subst (λ (d : Database). AreTables (tables_in d.trees)) (sym now) was.client.tables };
-        rows = subst (λ (d : Database). Holds stored (tables_in d.trees)) (sym now) was.rows;
+        rows = subst (λ (d : Database). TablesHold stored (tables_in d.trees)) (sym now) was.rows;
         settled = (undone.undone alive).0 ∙ sym (undone.undone alive).1;
       }
 ]

@@ -9,8 +9,8 @@ use Rattle.ps_client_log.specs.declared.edits.Edit.TheVariants.{Take, Delete, Pu
 use Rattle.ps_client_log.specs.Kept.{Kept, kept_of}
 use Rattle.ps_client_log.specs.Edits.{CanMakeAll, with_edit, with_edits}
 use Rattle.ps_client_lines.specs.declared.lines.Queued.{Queued}
-use Rattle.ps_client_lines.specs.Holding.{AreQueued, IsTextOf}
-use Rattle.ps_client_sqlite.specs.Numbering.{changes_of}
+use Rattle.ps_client_lines.specs.Holding.{AreQueued, TextIsItsChange}
+use Rattle.ps_client_sqlite.specs.Numbering.{queued_changes}
 use Rattle.ps_client_sqlite.specs.Editing.{waiting_after, waiting_after_all, NamesTable}
 
 waits : (kept : Kept) (edit : Edit) → (with_edit kept edit).queue ≡ waiting_after kept.queue edit
@@ -39,7 +39,7 @@ pub all_named : (kept : Kept) (edits : List Edit) → CanMakeAll kept edits → 
 all_named kept edits can = All-from_recursion NamesTable edits (each_named kept edits can)
 
 pub queued_after : (kept next : State) (queue all : List Queued) (edits : List Edit) → kept_of next ≡ with_edits (kept_of kept) edits → AreQueued queue kept.queue
-    → changes_of all ≡ waiting_after_all (changes_of queue) edits → All IsTextOf all → AreQueued all next.queue
+    → queued_changes all ≡ waiting_after_all (queued_changes queue) edits → All TextIsItsChange all → AreQueued all next.queue
 queued_after kept next queue all edits made was changes texts = record {
   changes = changes ∙ ap (λ (waiting : List Change). waiting_after_all waiting edits) was.changes ∙ sym (all_wait (kept_of kept) edits) ∙ sym (ap (λ (k : Kept). k.queue) made);
   texts = texts;

@@ -3,7 +3,7 @@ use Rattle.std.specs.Prelude.{◌≢◌, ℤ, List, [], ◌∷◌, ◌++◌, dro
 use Rattle.ps_rows.specs.declared.changes.Change.{Change}
 use Rattle.ps_client_log.specs.declared.edits.Edit.{Edit}
 use Rattle.ps_client_log.specs.declared.edits.Edit.TheVariants.{Take, Delete, Push, Pop, Aim, Show}
-use Rattle.ps_client_sqlite.specs.Numbering.{numbered}
+use Rattle.ps_client_sqlite.specs.Numbering.{with_next_number}
 
 abbrev pub waiting_after : List Change → Edit → List Change
 waiting_after waiting (Take bucket ops) = waiting
@@ -30,7 +30,7 @@ NamesTable (Show rows) = Unit {0}
 abbrev pub numbers_after : List ℤ → Edit → List ℤ
 numbers_after numbers (Take bucket ops) = numbers
 numbers_after numbers (Delete bucket) = numbers
-numbers_after numbers (Push change) = numbered numbers
+numbers_after numbers (Push change) = with_next_number numbers
 numbers_after numbers Pop = drop 1 numbers
 numbers_after numbers (Aim target) = numbers
 numbers_after numbers (Show rows) = numbers

@@ -16,9 +16,9 @@ use Rattle.ps_client_lines.specs.declared.lines.Queued.{Queued}
 use Rattle.ps_client_lines.specs.Holding.{AreQueued, AreRising}
 use Rattle.ps_client_tables.specs.Schemas.{no_schema}
 use Rattle.ps_client_tables.specs.Tables.{tables_in, no_rows}
-use Rattle.ps_client_sqlite.specs.Stored.{Holds}
+use Rattle.ps_client_sqlite.specs.Stored.{TablesHold}
 use Rattle.ps_client_log.specs.Kept.{Kept, kept_of}
-use Rattle.ps_client_sqlite.specs.Steps.{Kept as IsKept}
+use Rattle.ps_client_sqlite.specs.Steps.{KeepsWhileOpen as IsKept}
 use Rattle.ps_client_sqlite.specs.Stating.{stored_of}
 
 -- a keeper is its connection, the state and the local writes with their numbers and texts, as they are held in memory, and its count of faults
@@ -28,8 +28,8 @@ Keeping S = Held S × (State × (List Queued × ℕ))
 abbrev pub connection_of : {S : Type 0} → Keeping S → Held S
 connection_of keeper = keeper.0
 
-abbrev pub state_of : {S : Type 0} → Keeping S → State
-state_of keeper = keeper.1.0
+abbrev pub keeper_state : {S : Type 0} → Keeping S → State
+keeper_state keeper = keeper.1.0
 
 abbrev pub writes_of : {S : Type 0} → Keeping S → List Queued
 writes_of keeper = keeper.1.1.0
@@ -39,7 +39,7 @@ faults_of keeper = keeper.1.1.1
 
 -- the state is sound and its local writes have numbers that rise; the tables hold exactly this, while the disk returns what was written
 -- and the database is open, and nothing waits for a commit
-pub record Stands (state : State) (writes : List Queued) (s : Connected) : Type 0 where
+pub record StateStands (state : State) (writes : List Queued) (s : Connected) : Type 0 where
   pub outside : s.in_transaction ≡ false
   pub sound : IsSoundState state
   pub queued : AreQueued writes state.queue
@@ -48,7 +48,7 @@ pub record Stands (state : State) (writes : List Queued) (s : Connected) : Type 
 
 -- the tables that the last commit left hold the state, or it left a database without tables, and the state is of no rows
 abbrev pub IsFrom : Connected → State → List Queued → Type 0
-IsFrom old state writes = Holds (stored_of state writes) (tables_in old.committed.trees) ⊎ (Holds (stored_of state writes) no_rows × IsDatabase (record { schema = no_schema; trees = old.committed.trees }))
+IsFrom old state writes = TablesHold (stored_of state writes) (tables_in old.committed.trees) ⊎ (TablesHold (stored_of state writes) no_rows × IsDatabase (record { schema = no_schema; trees = old.committed.trees }))
 
 -- the count rises where the answer is `Failed`, as far as it can, and nowhere else
 abbrev pub CountsAt : KeepFault → ℕ → ℕ → Type 0
@@ -67,4 +67,4 @@ IsBlamed error Memory = error ≡ SqliteFailure OutOfMemory
 -- a crash leaves what it could leave before, or tables that hold a state that keeps this
 abbrev pub LeavesEdited : Connected → Connected → Kept → Type 0
 LeavesEdited old new kept = HasCleanDisk new → IsTrue old.is_open → (db : Trees) → new.may_leave db
-    → old.may_leave db ⊎ ((state : State) × (writes : List Queued) × (kept_of state ≡ kept) × Holds (stored_of state writes) (tables_in db))
+    → old.may_leave db ⊎ ((state : State) × (writes : List Queued) × (kept_of state ≡ kept) × TablesHold (stored_of state writes) (tables_in db))

@@ -17,22 +17,22 @@ use Rattle.ps_client_sqlite.specs.declared.faults.StoreFault.{StoreFault}
 use Rattle.ps_client_sqlite.specs.declared.faults.StoreFault.TheVariants.{Failed, BadState, Memory}
 
 -- the database has the tables, and nothing waits for a commit
-pub record IsSettled (s : State) : Type 0 where
+pub record HasSettledTables (s : State) : Type 0 where
   pub client : IsClient s
   pub settled : s.now ≡ s.committed
 
 abbrev pub Settles : State → Type 0
-Settles s = HasCleanDisk s → IsTrue s.is_open → IsSettled s
+Settles s = HasCleanDisk s → IsTrue s.is_open → HasSettledTables s
 
 -- the tables of the last commit as they were, or tables that were made now where there was none
 abbrev pub IsOfCommit : State → State → Type 0
 IsOfCommit old made = (made.now.trees ≡ old.committed.trees) ⊎ (IsFresh made × IsDatabase (record { schema = no_schema; trees = old.committed.trees }))
 
 -- out of memory is told as itself, and each other refusal as a failure
-abbrev pub IsRefused : Error → StoreFault → Type 0
-IsRefused error Failed = error ≢ SqliteFailure OutOfMemory
-IsRefused error (BadState table) = ⊥
-IsRefused error Memory = error ≡ SqliteFailure OutOfMemory
+abbrev pub OpeningIsRefused : Error → StoreFault → Type 0
+OpeningIsRefused error Failed = error ≢ SqliteFailure OutOfMemory
+OpeningIsRefused error (BadState table) = ⊥
+OpeningIsRefused error Memory = error ≡ SqliteFailure OutOfMemory
 
 -- rows that are no state are told with their table
 abbrev pub fault_of_rows : RowsFault → StoreFault

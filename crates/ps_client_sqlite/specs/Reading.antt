@@ -8,7 +8,7 @@ use Rattle.ps_client_tables.specs.Lines.{bucket_line, entry_line, queued_line, a
 use Rattle.ps_client_lines.specs.declared.cells.Cell.{Cell}
 use Rattle.ps_client_lines.specs.declared.cells.Cell.TheVariants.{Int, Text, Other}
 use Rattle.ps_client_lines.specs.declared.rows.Rows.{Rows}
-use Rattle.ps_client_lines.specs.Refusing.{AreInOrder}
+use Rattle.ps_client_lines.specs.Refusing.{StandInOrder}
 
 -- two lists are as long, and what stands at each place of them is alike
 abbrev pub Alike : {X Y : Type 0} → (X → Y → Type 0) → List X → List Y → Type 0
@@ -18,14 +18,14 @@ Alike R (x ∷ xs) [] = ⊥
 Alike R (x ∷ xs) (y ∷ ys) = R x y × Alike R xs ys
 
 -- neither a number nor a text in UTF-8
-abbrev pub IsOther : Value → Type 0
-IsOther kept = ((n : ℤ) → kept ≢ value.Int n) × ((text : List ℕ) → kept ≡ value.Text text → ¬ IsUtf8 text)
+abbrev pub IsOtherValue : Value → Type 0
+IsOtherValue kept = ((n : ℤ) → kept ≢ value.Int n) × ((text : List ℕ) → kept ≡ value.Text text → ¬ IsUtf8 text)
 
 -- the cell has the value: a number, a text in UTF-8, or anything else
 abbrev pub IsCell : Value → Cell → Type 0
 IsCell kept (Int n) = kept ≡ value.Int n
 IsCell kept (Text text) = (kept ≡ value.Text text) × IsUtf8 text
-IsCell kept Other = IsOther kept
+IsCell kept Other = IsOtherValue kept
 
 abbrev pub AreCells : Row → List Cell → Type 0
 AreCells row cells = Alike IsCell row cells
@@ -43,5 +43,5 @@ pub record AreTablesRead (tables : Tables) (rows : Rows) : Type 0 where
   pub queue : Alike AreCells (map queued_line tables.queue) rows.queue
   pub aim : AreRead (map aim_line tables.aim) rows.aim
   pub shown : AreRead (map shown_line tables.shown) rows.shown
-  pub buckets_stand : AreInOrder rows.buckets
-  pub entries_stand : AreInOrder rows.entries
+  pub buckets_stand : StandInOrder rows.buckets
+  pub entries_stand : StandInOrder rows.entries

@@ -14,14 +14,14 @@ abbrev pub found : {X K V : Type 0} → (K → K → Bool) → (X → K) → (X 
 found same key value all at = fold (λ seen one. if same (key one) at then Some (value one) else seen) None all
 
 -- each entry, with the name of its bucket
-abbrev pub entries_of : List BucketState → List (List ℕ × Held)
-entries_of buckets = flat_map (λ bucket. map (λ held. (bucket.name, held)) bucket.held) buckets
+abbrev pub held_entries : List BucketState → List (List ℕ × Held)
+held_entries buckets = flat_map (λ bucket. map (λ held. (bucket.name, held)) bucket.held) buckets
 
 -- what the tables hold of a state whose local writes have these numbers and texts
 abbrev pub stored_of : State → List Queued → Stored
 stored_of state writes = record {
   bucket = found bytes_eq (λ bucket. bucket.name) (λ bucket. (bucket.position.0, bucket.added.0)) state.buckets;
-  entry = λ name key. found {K = List ℕ × Key} (λ a b. same_place a.0 a.1 b.0 b.1) (λ entry. (entry.0, entry.1.key)) (λ entry. entry.1) (entries_of state.buckets) (name, key);
+  entry = λ name key. found {K = List ℕ × Key} (λ a b. same_place a.0 a.1 b.0 b.1) (λ entry. (entry.0, entry.1.key)) (λ entry. entry.1) (held_entries state.buckets) (name, key);
   queued = found int_eq (λ line. line.seq) (λ line. line.text) writes;
   target = state.target;
   shown = λ kind id. found {K = List ℕ × List ℕ} (λ a b. same_object a.0 a.1 b.0 b.1) (λ row. (row.kind, row.id)) (λ row. row.content) state.shown (kind, id);

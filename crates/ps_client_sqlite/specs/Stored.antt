@@ -12,7 +12,7 @@ use Rattle.ps_client_log.specs.declared.states.Held.{Held}
 use Rattle.ps_client_log.specs.declared.states.Target.{Target}
 use Rattle.ps_client_log.specs.declared.states.Target.TheVariants.{Free, Pending, Number}
 use Rattle.ps_client_log.specs.Soundness.{IsSoundTarget}
-use Rattle.ps_client_tables.specs.Tables.{Tables, bucket_row, entry_row, shown_row, is_bucket, is_entry, is_shown}
+use Rattle.ps_client_tables.specs.Tables.{Tables, bucket_row, entry_row, shown_row, is_bucket, is_entry_row, is_shown}
 use Rattle.ps_client_tables.specs.Lines.{bucket_line, entry_line, queued_line, aim_line, shown_line}
 use Rattle.ps_client_sqlite.specs.declared.writes.RowWrite.{RowWrite}
 use Rattle.ps_client_sqlite.specs.declared.writes.RowWrite.TheVariants.{PutBucket, DropBucket, PutEntry, DropEntry, PutQueued, DropQueued, PutAim, PutShown, DropShown}
@@ -42,13 +42,13 @@ kind_of Free = 0
 kind_of Pending = 1
 kind_of (Number number) = 2
 
-abbrev pub number_of : Target → ℕ
-number_of Free = 0
-number_of Pending = 0
-number_of (Number number) = number
+abbrev pub target_number : Target → ℕ
+target_number Free = 0
+target_number Pending = 0
+target_number (Number number) = number
 
 abbrev pub aim_columns : Target → Row
-aim_columns target = Int (pos 1) ∷ Int (pos (kind_of target)) ∷ Int (pos (number_of target)) ∷ []
+aim_columns target = Int (pos 1) ∷ Int (pos (kind_of target)) ∷ Int (pos (target_number target)) ∷ []
 
 abbrev pub shown_columns : List ℕ × List ℕ → List ℕ → Row
 shown_columns at content = shown_row at.0 at.1 content
@@ -61,7 +61,7 @@ pub record Shows {K V : Type 0} (has : K → Row → Bool) (line : Row → Row) 
   pub only : AllByRecursion (λ row. (key : K) × (has key row ≡ true)) rows
 
 abbrev pub has_entry : List ℕ × Key → Row → Bool
-has_entry at row = is_entry at.0 at.1 row
+has_entry at row = is_entry_row at.0 at.1 row
 
 abbrev pub has_shown : List ℕ × List ℕ → Row → Bool
 has_shown at row = is_shown at.0 at.1 row
@@ -71,7 +71,7 @@ abbrev pub IsAim : Target → List Row → Type 0
 IsAim target lines = (lines ≡ aim_columns target ∷ []) ⊎ ((lines ≡ []) × (target ≡ Free))
 
 -- the tables hold exactly this
-pub record Holds (stored : Stored) (tables : Tables) : Type 0 where
+pub record TablesHold (stored : Stored) (tables : Tables) : Type 0 where
   pub buckets : Shows is_bucket bucket_line bucket_columns stored.bucket tables.buckets
   pub entries : Shows has_entry entry_line entry_columns (λ at. stored.entry at.0 at.1) tables.entries
   pub queue : Shows has_rowid queued_line queued_columns stored.queued tables.queue
@@ -114,16 +114,16 @@ abbrev pub with_writes : Stored → List RowWrite → Stored
 with_writes stored writes = fold with_write stored writes
 
 -- no number is past the greatest
-abbrev pub IsWritable : RowWrite → Type 0
-IsWritable (PutBucket name position added) = position.0 ≤ greatest
-IsWritable (DropBucket name) = Unit {0}
-IsWritable (PutEntry bucket held) = held.id.0 ≤ greatest
-IsWritable (DropEntry bucket key) = Unit {0}
-IsWritable (PutQueued seq text) = Unit {0}
-IsWritable (DropQueued seq) = Unit {0}
-IsWritable (PutAim target) = IsSoundTarget target
-IsWritable (PutShown row) = Unit {0}
-IsWritable (DropShown kind id) = Unit {0}
+abbrev pub IsWritableRow : RowWrite → Type 0
+IsWritableRow (PutBucket name position added) = position.0 ≤ greatest
+IsWritableRow (DropBucket name) = Unit {0}
+IsWritableRow (PutEntry bucket held) = held.id.0 ≤ greatest
+IsWritableRow (DropEntry bucket key) = Unit {0}
+IsWritableRow (PutQueued seq text) = Unit {0}
+IsWritableRow (DropQueued seq) = Unit {0}
+IsWritableRow (PutAim target) = IsSoundTarget target
+IsWritableRow (PutShown row) = Unit {0}
+IsWritableRow (DropShown kind id) = Unit {0}
 
 -- the row that it writes is not as it was
 abbrev pub Differs : Stored → RowWrite → Type 0

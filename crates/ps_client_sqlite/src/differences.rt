@@ -4,7 +4,7 @@ ghost use Rattle.std.specs.Prelude.{◌≡◌, ◌++◌, map, bytes_eq, IfOk, On
 ghost use Rattle.std.specs.List.{All};
 ghost use Rattle.std.specs.Ordering.{int_eq};
 ghost use Rattle.ps_client_log.specs.Soundness.{IsSoundState};
-ghost use Rattle.ps_client_sqlite.specs.Stored.{IsWritable, Differs, with_writes};
+ghost use Rattle.ps_client_sqlite.specs.Stored.{IsWritableRow, Differs, with_writes};
 ghost use Rattle.ps_client_sqlite.specs.Stating.{stored_of};
 ghost use Rattle.ps_client_sqlite.specs.Writing.{bucket_pair, entry_pair, entry_pairs, queued_pair, shown_pair, bucket_write, entry_write, queued_write, shown_write, writes_of, place_eq, object_eq, AddsChanges, AddsTarget};
 
@@ -263,7 +263,7 @@ pub fn difference(
 ) -> Result<Vec<RowWrite>, Memory>
     requires { IsSoundState new.now }
     ensures reached { IfOk result (λ writes. with_writes (stored_of old.now old_queue.now) writes.items ≡ stored_of new.now new_queue.now) }
-    ensures writable { IfOk result (λ writes. All IsWritable writes.items) }
+    ensures writable { IfOk result (λ writes. All IsWritableRow writes.items) }
     ensures differ { IfOk result (λ writes. All (Differs (stored_of old.now old_queue.now)) writes.items) }
 {
     let mut writes = Vec::new(alloc);

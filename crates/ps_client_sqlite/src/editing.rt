@@ -3,8 +3,8 @@
 ghost use Rattle.std.specs.Prelude.{◌≡◌, ◌≢◌, ◌++◌, ◌∷◌, [], drop, IfOk};
 ghost use Rattle.std.specs.List.{All};
 ghost use Rattle.ps_changes.specs.Writing.{change_text};
-ghost use Rattle.ps_client_lines.specs.Holding.{AreRising, IsTextOf};
-ghost use Rattle.ps_client_sqlite.specs.Numbering.{changes_of, numbers_of, numbered};
+ghost use Rattle.ps_client_lines.specs.Holding.{AreRising, TextIsItsChange};
+ghost use Rattle.ps_client_sqlite.specs.Numbering.{queued_changes, queued_numbers, with_next_number};
 ghost use Rattle.ps_client_sqlite.specs.Editing.{waiting_after, waiting_after_all, numbers_after, numbers_after_all, NamesTable};
 
 use crate::pushed;
@@ -41,12 +41,12 @@ fn popped(queue: Items<Queued>) -> Items<Queued>
 // The local writes, and one more behind them.
 fn written(alloc: Global, queue: Items<Queued>, change: &Change) -> Result<Items<Queued>, Memory>
     requires rising { AreRising queue }
-    requires texts { All IsTextOf queue }
+    requires texts { All TextIsItsChange queue }
     requires named { change.now.table ≢ [] }
     ensures rising { IfOk result AreRising }
-    ensures texts { IfOk result (All IsTextOf) }
-    ensures changes { IfOk result (λ all. changes_of all ≡ changes_of queue ++ change.now ∷ []) }
-    ensures numbers { IfOk result (λ all. numbers_of all ≡ numbered (numbers_of queue)) }
+    ensures texts { IfOk result (All TextIsItsChange) }
+    ensures changes { IfOk result (λ all. queued_changes all ≡ queued_changes queue ++ change.now ∷ []) }
+    ensures numbers { IfOk result (λ all. queued_numbers all ≡ with_next_number (queued_numbers queue)) }
 {
     let text = text_of(alloc, change)?;
     let copy = change.copy(alloc)?;
@@ -56,11 +56,11 @@ fn written(alloc: Global, queue: Items<Queued>, change: &Change) -> Result<Items
 // What stays of the local writes where the oldest leaves.
 fn without_oldest(queue: Items<Queued>) -> Items<Queued>
     requires rising { AreRising queue }
-    requires texts { All IsTextOf queue }
+    requires texts { All TextIsItsChange queue }
     ensures rising { AreRising result }
-    ensures texts { All IsTextOf result }
-    ensures changes { changes_of result ≡ drop 1 (changes_of queue) }
-    ensures numbers { numbers_of result ≡ drop 1 (numbers_of queue) }
+    ensures texts { All TextIsItsChange result }
+    ensures changes { queued_changes result ≡ drop 1 (queued_changes queue) }
+    ensures numbers { queued_numbers result ≡ drop 1 (queued_numbers queue) }
 {
     popped(queue)
 }
@@ -68,12 +68,12 @@ fn without_oldest(queue: Items<Queued>) -> Items<Queued>
 // The local writes after an edit.
 fn after_edit(alloc: Global, queue: Items<Queued>, edit: &Edit) -> Result<Items<Queued>, Memory>
     requires rising { AreRising queue }
-    requires texts { All IsTextOf queue }
+    requires texts { All TextIsItsChange queue }
     requires named { NamesTable edit.now }
     ensures rising { IfOk result AreRising }
-    ensures texts { IfOk result (All IsTextOf) }
-    ensures changes { IfOk result (λ all. changes_of all ≡ waiting_after (changes_of queue) edit.now) }
-    ensures numbers { IfOk result (λ all. numbers_of all ≡ numbers_after (numbers_of queue) edit.now) }
+    ensures texts { IfOk result (All TextIsItsChange) }
+    ensures changes { IfOk result (λ all. queued_changes all ≡ waiting_after (queued_changes queue) edit.now) }
+    ensures numbers { IfOk result (λ all. queued_numbers all ≡ numbers_after (queued_numbers queue) edit.now) }
 {
     match edit {
         Edit::Push { change } => written(alloc, queue, change),
@@ -89,12 +89,12 @@ pub fn after_edits(
     edits: &[Edit],
 ) -> Result<Items<Queued>, Memory>
     requires rising { AreRising queue }
-    requires texts { All IsTextOf queue }
+    requires texts { All TextIsItsChange queue }
     requires named { All NamesTable edits.now }
     ensures rising { IfOk result AreRising }
-    ensures texts { IfOk result (All IsTextOf) }
-    ensures changes { IfOk result (λ all. changes_of all ≡ waiting_after_all (changes_of queue) edits.now) }
-    ensures numbers { IfOk result (λ all. numbers_of all ≡ numbers_after_all (numbers_of queue) edits.now) }
+    ensures texts { IfOk result (All TextIsItsChange) }
+    ensures changes { IfOk result (λ all. queued_changes all ≡ waiting_after_all (queued_changes queue) edits.now) }
+    ensures numbers { IfOk result (λ all. queued_numbers all ≡ numbers_after_all (queued_numbers queue) edits.now) }
 {
     let mut lines = queue;
     'edits: for edit in edits {

@@ -1,7 +1,7 @@
 //! Why a store was not opened.
 
 ghost use Rattle.std.specs.Prelude.{◌≡◌};
-ghost use Rattle.ps_client_sqlite.specs.Opening.{IsRefused, NamesNone, fault_of_rows};
+ghost use Rattle.ps_client_sqlite.specs.Opening.{OpeningIsRefused, NamesNone, fault_of_rows};
 
 use ps_client_lines::RowsFault;
 use ps_data::Memory;
@@ -33,7 +33,7 @@ impl From<Memory> for StoreFault {
 
 /// What a refused statement or a file that is not opened is to one who opens a store: out of memory, or a failure.
 pub fn refused(error: &Error) -> StoreFault
-    ensures cause { IsRefused error.now result }
+    ensures cause { OpeningIsRefused error.now result }
     ensures unnamed { NamesNone result }
 {
     match error {

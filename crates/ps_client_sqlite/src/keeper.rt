@@ -9,13 +9,13 @@ ghost use Rattle.ps_client_log.specs.Soundness.{IsSound, IsSoundState};
 ghost use Rattle.ps_client_log.specs.Keeping.{RoseWhereFailed};
 ghost use Rattle.ps_client_log.specs.Edits.{CanMakeAll, with_edits};
 ghost use Rattle.ps_client_lines.specs.Holding.{AreQueued, AreRising};
-ghost use Rattle.ps_client_sqlite.specs.Stored.{IsWritable, with_writes};
+ghost use Rattle.ps_client_sqlite.specs.Stored.{IsWritableRow, with_writes};
 ghost use Rattle.ps_client_sqlite.specs.Steps.{LeavesOr};
 ghost use Rattle.ps_client_sqlite.specs.Stating.{stored_of};
 ghost use Rattle.ps_client_sqlite.specs.Opening.{Settles, IsFaultRead, IsFaultFrom};
-ghost use Rattle.ps_client_sqlite.specs.Numbering.{numbers_of};
+ghost use Rattle.ps_client_sqlite.specs.Numbering.{queued_numbers};
 ghost use Rattle.ps_client_sqlite.specs.Editing.{numbers_after_all};
-ghost use Rattle.ps_client_sqlite.specs.Keeping.{connection_of, state_of, writes_of, faults_of, Counts, CountsAt, IsBlamed, IsFrom, LeavesEdited, Stands};
+ghost use Rattle.ps_client_sqlite.specs.Keeping.{connection_of, keeper_state, writes_of, faults_of, Counts, CountsAt, IsBlamed, IsFrom, LeavesEdited, StateStands};
 
 use crate::copies::{queue_copy, state_copy};
 use crate::reading::{read_again, read_state};
@@ -53,11 +53,11 @@ impl<S: Alter> Model for SqliteKeeper<S> {
     ghost coded = { coded× (held_code S.code) (coded× told.the_row.coded (coded× (coded_list queued.the_row.coded) coded_ℕ)) };
 
     ghost use Rattle.sqlite.specs.Held.{state};
-    ghost use Rattle.ps_client_sqlite.specs.Keeping.{Stands};
+    ghost use Rattle.ps_client_sqlite.specs.Keeping.{StateStands};
 
     ghost view = { λ keeper. (keeper.connection, (keeper.kept, (keeper.writes, keeper.faults))) };
 
-    ghost invariant = { λ keeper. Stands keeper.kept keeper.writes (state S.Store keeper.connection) };
+    ghost invariant = { λ keeper. StateStands keeper.kept keeper.writes (state S.Store keeper.connection) };
 }
 
 // What a refused statement is to a client.
@@ -97,7 +97,7 @@ fn read<S: Alter + Drop>(
 ) -> Result<SqliteKeeper<S>, StoreFault>
     requires outside { (state S.Store connection).in_transaction ≡ false }
     requires settled { Settles (state S.Store connection) }
-    ensures stands { IfOk result (λ keeper. Stands (state_of keeper) (writes_of keeper) (state S.Store (connection_of keeper))) }
+    ensures stands { IfOk result (λ keeper. StateStands (keeper_state keeper) (writes_of keeper) (state S.Store (connection_of keeper))) }
     ensures clean { IfOk result (λ keeper. HasCleanDisk (state S.Store (connection_of keeper)) → HasCleanDisk (state S.Store connection)) }
     ensures opened { IfOk result (λ keeper. HasCleanDisk (state S.Store (connection_of keeper)) → IsTrue (state S.Store connection).is_open) }
     ensures same { IfOk result (λ keeper. HasCleanDisk (state S.Store (connection_of keeper)) → (state S.Store (connection_of keeper)).now ≡ (state S.Store connection).now) }
@@ -121,9 +121,9 @@ impl<S: Alter + Drop> SqliteKeeper<S> {
     /// Keeps what the tables of a database hold, by maps that hash by a seed that everyone knows: for keys that nobody chose for it, as those in files of
     /// one's own. Fails as `open_hashed` does.
     pub fn open(alloc: Global, connection: Connection<S>) -> Result<SqliteKeeper<S>, StoreFault>
-        ensures stands { IfOk result (λ keeper. Stands (state_of keeper) (writes_of keeper) (state S.Store (connection_of keeper))) }
+        ensures stands { IfOk result (λ keeper. StateStands (keeper_state keeper) (writes_of keeper) (state S.Store (connection_of keeper))) }
         ensures rows { IfOk result (λ keeper. HasCleanDisk (state S.Store (connection_of keeper)) → IsTrue (state S.Store (connection_of keeper)).is_open
-            → IsFrom (state S.Store connection) (state_of keeper) (writes_of keeper)) }
+            → IsFrom (state S.Store connection) (keeper_state keeper) (writes_of keeper)) }
         ensures clean { IfOk result (λ keeper. HasCleanDisk (state S.Store (connection_of keeper)) → HasCleanDisk (state S.Store connection)) }
         ensures uncounted { IfOk result (λ keeper. faults_of keeper ≡ 0) }
         ensures blames { IfErr result (IsFaultFrom (state S.Store) (state S.Store connection)) }
@@ -139,9 +139,9 @@ impl<S: Alter + Drop> SqliteKeeper<S> {
         connection: Connection<S>,
         hashing: Hashing,
     ) -> Result<SqliteKeeper<S>, StoreFault>
-        ensures stands { IfOk result (λ keeper. Stands (state_of keeper) (writes_of keeper) (state S.Store (connection_of keeper))) }
+        ensures stands { IfOk result (λ keeper. StateStands (keeper_state keeper) (writes_of keeper) (state S.Store (connection_of keeper))) }
         ensures rows { IfOk result (λ keeper. HasCleanDisk (state S.Store (connection_of keeper)) → IsTrue (state S.Store (connection_of keeper)).is_open
-            → IsFrom (state S.Store connection) (state_of keeper) (writes_of keeper)) }
+            → IsFrom (state S.Store connection) (keeper_state keeper) (writes_of keeper)) }
         ensures clean { IfOk result (λ keeper. HasCleanDisk (state S.Store (connection_of keeper)) → HasCleanDisk (state S.Store connection)) }
         ensures uncounted { IfOk result (λ keeper. faults_of keeper ≡ 0) }
         // The table that is named has a row that is none of a state, and the rows of those before it are those of a state.
@@ -177,8 +177,8 @@ fn after(
     ensures sound { IfOk result (λ next. IsSoundState next.state) }
     ensures queued { IfOk result (λ next. AreQueued next.queue next.state.queue) }
     ensures rising { IfOk result (λ next. AreRising next.queue) }
-    ensures numbers { IfOk result (λ next. numbers_of next.queue ≡ numbers_after_all (numbers_of queue.now) edits.now) }
-    ensures writable { IfOk result (λ next. All IsWritable next.writes.items) }
+    ensures numbers { IfOk result (λ next. queued_numbers next.queue ≡ numbers_after_all (queued_numbers queue.now) edits.now) }
+    ensures writable { IfOk result (λ next. All IsWritableRow next.writes.items) }
     ensures reached { IfOk result (λ next. with_writes (stored_of kept.now queue.now) next.writes.items ≡ stored_of next.state next.queue) }
 {
     let state = edited(alloc, hashing, state_copy(alloc, kept)?, edits)?;
@@ -210,15 +210,15 @@ impl<S: Alter> SqliteKeeper<S> {
         requires sound { IsSoundState next }
         requires queued { AreQueued queue next.queue }
         requires rising { AreRising queue }
-        requires writable { All IsWritable writes.now }
-        requires reached { with_writes (stored_of (state_of self.old) (writes_of self.old)) writes.now ≡ stored_of next queue }
-        ensures ok { OnOk result (state_of self.new ≡ next) }
+        requires writable { All IsWritableRow writes.now }
+        requires reached { with_writes (stored_of (keeper_state self.old) (writes_of self.old)) writes.now ≡ stored_of next queue }
+        ensures ok { OnOk result (keeper_state self.new ≡ next) }
         ensures ok_writes { OnOk result (writes_of self.new ≡ queue) }
-        ensures err { OnErr result (state_of self.new ≡ state_of self.old) }
+        ensures err { OnErr result (keeper_state self.new ≡ keeper_state self.old) }
         ensures err_writes { OnErr result (writes_of self.new ≡ writes_of self.old) }
         ensures counted { Counts result (faults_of self.old) (faults_of self.new) }
         ensures faults { faults_of self.old ≤ faults_of self.new }
-        ensures stands { Stands (state_of self.new) (writes_of self.new) (state S.Store (connection_of self.new)) }
+        ensures stands { StateStands (keeper_state self.new) (writes_of self.new) (state S.Store (connection_of self.new)) }
         ensures crash { LeavesOr (state S.Store (connection_of self.old)) (state S.Store (connection_of self.new)) (stored_of next queue) }
     {
         match write_all(&mut self.connection, writes) {
@@ -238,15 +238,15 @@ impl<S: Alter> SqliteKeeper<S> {
     /// Makes all the edits, one after another, by one transaction that writes only the rows that change; or none. The new state is computed
     /// before anything is written, in time and memory in line with the state and the edits. Fails as `turn` does; nothing has changed then.
     pub fn make(&mut self, alloc: Global, edits: &[Edit]) -> Result<(), KeepFault>
-        requires { CanMakeAll (kept_of (state_of self.old)) edits.now }
-        ensures ok { OnOk result (kept_of (state_of self.new) ≡ with_edits (kept_of (state_of self.old)) edits.now) }
-        ensures numbers { OnOk result (numbers_of (writes_of self.new) ≡ numbers_after_all (numbers_of (writes_of self.old)) edits.now) }
-        ensures err { OnErr result (state_of self.new ≡ state_of self.old) }
+        requires { CanMakeAll (kept_of (keeper_state self.old)) edits.now }
+        ensures ok { OnOk result (kept_of (keeper_state self.new) ≡ with_edits (kept_of (keeper_state self.old)) edits.now) }
+        ensures numbers { OnOk result (queued_numbers (writes_of self.new) ≡ numbers_after_all (queued_numbers (writes_of self.old)) edits.now) }
+        ensures err { OnErr result (keeper_state self.new ≡ keeper_state self.old) }
         ensures err_writes { OnErr result (writes_of self.new ≡ writes_of self.old) }
         ensures counted { Counts result (faults_of self.old) (faults_of self.new) }
         ensures faults { faults_of self.old ≤ faults_of self.new }
-        ensures stands { Stands (state_of self.new) (writes_of self.new) (state S.Store (connection_of self.new)) }
-        ensures crash { LeavesEdited (state S.Store (connection_of self.old)) (state S.Store (connection_of self.new)) (with_edits (kept_of (state_of self.old)) edits.now) }
+        ensures stands { StateStands (keeper_state self.new) (writes_of self.new) (state S.Store (connection_of self.new)) }
+        ensures crash { LeavesEdited (state S.Store (connection_of self.old)) (state S.Store (connection_of self.new)) (with_edits (kept_of (keeper_state self.old)) edits.now) }
     {
         let Next {
             state,
@@ -259,12 +259,12 @@ impl<S: Alter> SqliteKeeper<S> {
     /// The state that it keeps. The tables are read again: it fails with `Failed`, which is counted, where a statement is refused for another cause
     /// than memory or they have a row that is none of a state, and with `Memory`.
     pub fn tell(&mut self, alloc: Global) -> Result<State, KeepFault>
-        ensures told { IfOk result (λ told. told ≡ state_of self.old) }
-        ensures same { state_of self.new ≡ state_of self.old }
+        ensures told { IfOk result (λ told. told ≡ keeper_state self.old) }
+        ensures same { keeper_state self.new ≡ keeper_state self.old }
         ensures same_writes { writes_of self.new ≡ writes_of self.old }
         ensures counted { Counts result (faults_of self.old) (faults_of self.new) }
         ensures faults { faults_of self.old ≤ faults_of self.new }
-        ensures stands { Stands (state_of self.new) (writes_of self.new) (state S.Store (connection_of self.new)) }
+        ensures stands { StateStands (keeper_state self.new) (writes_of self.new) (state S.Store (connection_of self.new)) }
     {
         match read_again(alloc, self.hashing, &mut self.connection) {
             Ok(()) => Ok(state_copy(alloc, &self.kept)?),
@@ -292,40 +292,40 @@ impl<S: Alter> SqliteKeeper<S> {
 }
 
 impl<S: Alter> Keeper for SqliteKeeper<S> {
-    ghost held = { λ keeper. Some (kept_of (state_of keeper)) };
+    ghost held = { λ keeper. Some (kept_of (keeper_state keeper)) };
 
     ghost faults = { faults_of };
 
     ghost calls = { λ _. None };
 
     fn load(&mut self, alloc: Global) -> Result<State, KeepFault>
-        ensures state { IfOk result (λ told. kept_of told ≡ kept_of (state_of self.old)) }
+        ensures state { IfOk result (λ told. kept_of told ≡ kept_of (keeper_state self.old)) }
         ensures sound { IfOk result IsSoundState }
-        ensures told { IsSound (kept_of (state_of self.old)) }
-        ensures held { Some (kept_of (state_of self.new)) ≡ Some (kept_of (state_of self.old)) }
+        ensures told { IsSound (kept_of (keeper_state self.old)) }
+        ensures held { Some (kept_of (keeper_state self.new)) ≡ Some (kept_of (keeper_state self.old)) }
         ensures failed { RoseWhereFailed result (faults_of self.old) (faults_of self.new) }
         ensures faults { faults_of self.old ≤ faults_of self.new }
         ensures quiet { OnOk result (faults_of self.new ≡ faults_of self.old) }
-        ensures same { state_of self.new ≡ state_of self.old }
+        ensures same { keeper_state self.new ≡ keeper_state self.old }
         ensures same_writes { writes_of self.new ≡ writes_of self.old }
-        ensures stands { Stands (state_of self.new) (writes_of self.new) (state S.Store (connection_of self.new)) }
+        ensures stands { StateStands (keeper_state self.new) (writes_of self.new) (state S.Store (connection_of self.new)) }
     {
         self.tell(alloc)
     }
 
     fn commit(&mut self, alloc: Global, edits: &[Edit]) -> Result<(), KeepFault>
-        requires { CanMakeAll (kept_of (state_of self.old)) edits.now }
-        ensures ok { OnOk result (Some (kept_of (state_of self.new)) ≡ Some (with_edits (kept_of (state_of self.old)) edits.now)) }
-        ensures numbers { OnOk result (numbers_of (writes_of self.new) ≡ numbers_after_all (numbers_of (writes_of self.old)) edits.now) }
-        ensures err { OnErr result (Some (kept_of (state_of self.new)) ≡ Some (kept_of (state_of self.old))) }
-        ensures err_state { OnErr result (state_of self.new ≡ state_of self.old) }
+        requires { CanMakeAll (kept_of (keeper_state self.old)) edits.now }
+        ensures ok { OnOk result (Some (kept_of (keeper_state self.new)) ≡ Some (with_edits (kept_of (keeper_state self.old)) edits.now)) }
+        ensures numbers { OnOk result (queued_numbers (writes_of self.new) ≡ numbers_after_all (queued_numbers (writes_of self.old)) edits.now) }
+        ensures err { OnErr result (Some (kept_of (keeper_state self.new)) ≡ Some (kept_of (keeper_state self.old))) }
+        ensures err_state { OnErr result (keeper_state self.new ≡ keeper_state self.old) }
         ensures err_writes { OnErr result (writes_of self.new ≡ writes_of self.old) }
-        ensures told { IsSound (kept_of (state_of self.new)) }
+        ensures told { IsSound (kept_of (keeper_state self.new)) }
         ensures failed { RoseWhereFailed result (faults_of self.old) (faults_of self.new) }
         ensures faults { faults_of self.old ≤ faults_of self.new }
         ensures quiet { OnOk result (faults_of self.new ≡ faults_of self.old) }
-        ensures stands { Stands (state_of self.new) (writes_of self.new) (state S.Store (connection_of self.new)) }
-        ensures crash { LeavesEdited (state S.Store (connection_of self.old)) (state S.Store (connection_of self.new)) (with_edits (kept_of (state_of self.old)) edits.now) }
+        ensures stands { StateStands (keeper_state self.new) (writes_of self.new) (state S.Store (connection_of self.new)) }
+        ensures crash { LeavesEdited (state S.Store (connection_of self.old)) (state S.Store (connection_of self.new)) (with_edits (kept_of (keeper_state self.old)) edits.now) }
     {
         self.make(alloc, edits)
     }

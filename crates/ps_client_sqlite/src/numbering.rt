@@ -3,7 +3,7 @@
 ghost use Rattle.std.specs.Prelude.{◌≡◌, ◌≢◌, ◌++◌, ◌∷◌, [], ◌<ℤ◌, ◌+ℤ◌, pos, length, IfOk, IfSome, IfNone};
 ghost use Rattle.std.specs.List.{All};
 ghost use Rattle.ps_client_lines.specs.Holding.{AreRising};
-ghost use Rattle.ps_client_sqlite.specs.Numbering.{changes_of, texts_of, numbers_of, last_number, first_numbers, Pushes};
+ghost use Rattle.ps_client_sqlite.specs.Numbering.{queued_changes, texts_of, queued_numbers, last_number, first_numbers, Pushes};
 
 use ps_client_lines::Queued;
 use ps_data::{Items, Memory, Text};
@@ -29,10 +29,10 @@ fn next_number(lines: &[Queued]) -> Option<i64>
 
 // The same local writes under the numbers from 1 on.
 fn renumbered(alloc: Global, lines: Vec<Queued>) -> Result<Vec<Queued>, Memory>
-    ensures changes { IfOk result (λ all. changes_of all.items ≡ changes_of lines.items) }
+    ensures changes { IfOk result (λ all. queued_changes all.items ≡ queued_changes lines.items) }
     ensures texts { IfOk result (λ all. texts_of all.items ≡ texts_of lines.items) }
     ensures rising { IfOk result (λ all. AreRising all.items) }
-    ensures numbers { IfOk result (λ all. numbers_of all.items ≡ first_numbers (length all.items)) }
+    ensures numbers { IfOk result (λ all. queued_numbers all.items ≡ first_numbers (length all.items)) }
 {
     let mut all = Vec::with_capacity(alloc, lines.len())?;
     let mut last: i64 = 0;
@@ -60,8 +60,8 @@ pub fn pushed(
 ) -> Result<Items<Queued>, Memory>
     requires { AreRising queue }
     ensures pushes { IfOk result (λ all. Pushes queue all text change) }
-    ensures next { last_number queue ≢ pos 9223372036854775807 → IfOk result (λ all. numbers_of all ≡ numbers_of queue ++ (last_number queue +ℤ pos 1) ∷ []) }
-    ensures anew { last_number queue ≡ pos 9223372036854775807 → IfOk result (λ all. numbers_of all ≡ first_numbers (length all)) }
+    ensures next { last_number queue ≢ pos 9223372036854775807 → IfOk result (λ all. queued_numbers all ≡ queued_numbers queue ++ (last_number queue +ℤ pos 1) ∷ []) }
+    ensures anew { last_number queue ≡ pos 9223372036854775807 → IfOk result (λ all. queued_numbers all ≡ first_numbers (length all)) }
 {
     let mut lines = queue.into_vec();
     let Some(seq) = next_number(lines.as_slice()) else {

@@ -8,12 +8,12 @@ ghost use Rattle.sqlite.specs.Held.{state};
 ghost use Rattle.sqlite.specs.State.{HasCleanDisk, IsUnchanged};
 ghost use Rattle.ps_client_tables.specs.Lines.{bucket_line, entry_line, queued_line, aim_line, shown_line};
 ghost use Rattle.ps_client_tables.specs.Steps.{IsClient, tables_of};
-ghost use Rattle.ps_client_sqlite.specs.Stored.{Stored, Holds};
+ghost use Rattle.ps_client_sqlite.specs.Stored.{Stored, TablesHold};
 ghost use Rattle.ps_client_sqlite.specs.Stating.{stored_of};
 ghost use Rattle.ps_client_log.specs.Soundness.{IsSoundState};
 ghost use Rattle.ps_client_lines.specs.Holding.{AreQueued, AreRising};
-ghost use Rattle.ps_client_lines.specs.Refusing.{AreInOrder};
-ghost use Rattle.ps_client_sqlite.specs.Steps.{Kept};
+ghost use Rattle.ps_client_lines.specs.Refusing.{StandInOrder};
+ghost use Rattle.ps_client_sqlite.specs.Steps.{KeepsWhileOpen};
 ghost use Rattle.ps_client_sqlite.specs.Reading.{Alike, AreCells, IsCell, AreRead, AreTablesRead};
 ghost use Rattle.ps_client_sqlite.specs.Opening.{NamesNone, IsFaultOf, IsOpenWhereNamed};
 
@@ -90,12 +90,12 @@ fn bucket_rows<S: Alter>(
     conn: &mut Connection<S>,
 ) -> Result<Items<Items<Cell>>, StoreFault>
     ensures read { HasCleanDisk (state S.Store conn.new) → IsClient (state S.Store conn.old) → IfOk result (AreRead (map bucket_line (tables_of (state S.Store conn.old)).buckets)) }
-    ensures stand { HasCleanDisk (state S.Store conn.new) → IsClient (state S.Store conn.old) → IfOk result AreInOrder }
+    ensures stand { HasCleanDisk (state S.Store conn.new) → IsClient (state S.Store conn.old) → IfOk result StandInOrder }
     ensures same { HasCleanDisk (state S.Store conn.new) → IsClient (state S.Store conn.old) → OnOk result (IsUnchanged (state S.Store conn.old) (state S.Store conn.new)) }
     ensures opened { HasCleanDisk (state S.Store conn.new) → OnOk result (IsTrue (state S.Store conn.old).is_open) }
     ensures clean { HasCleanDisk (state S.Store conn.new) → HasCleanDisk (state S.Store conn.old) }
     ensures mode { (state S.Store conn.old).in_transaction ≡ false → (state S.Store conn.new).in_transaction ≡ false }
-    ensures kept { (stored : Stored) → Kept stored (state S.Store conn.old) → Kept stored (state S.Store conn.new) }
+    ensures kept { (stored : Stored) → KeepsWhileOpen stored (state S.Store conn.old) → KeepsWhileOpen stored (state S.Store conn.new) }
     ensures unnamed { IfErr result NamesNone }
 {
     match read_buckets(conn) {
@@ -113,12 +113,12 @@ fn entry_rows<S: Alter>(
     conn: &mut Connection<S>,
 ) -> Result<Items<Items<Cell>>, StoreFault>
     ensures read { HasCleanDisk (state S.Store conn.new) → IsClient (state S.Store conn.old) → IfOk result (AreRead (map entry_line (tables_of (state S.Store conn.old)).entries)) }
-    ensures stand { HasCleanDisk (state S.Store conn.new) → IsClient (state S.Store conn.old) → IfOk result AreInOrder }
+    ensures stand { HasCleanDisk (state S.Store conn.new) → IsClient (state S.Store conn.old) → IfOk result StandInOrder }
     ensures same { HasCleanDisk (state S.Store conn.new) → IsClient (state S.Store conn.old) → OnOk result (IsUnchanged (state S.Store conn.old) (state S.Store conn.new)) }
     ensures opened { HasCleanDisk (state S.Store conn.new) → OnOk result (IsTrue (state S.Store conn.old).is_open) }
     ensures clean { HasCleanDisk (state S.Store conn.new) → HasCleanDisk (state S.Store conn.old) }
     ensures mode { (state S.Store conn.old).in_transaction ≡ false → (state S.Store conn.new).in_transaction ≡ false }
-    ensures kept { (stored : Stored) → Kept stored (state S.Store conn.old) → Kept stored (state S.Store conn.new) }
+    ensures kept { (stored : Stored) → KeepsWhileOpen stored (state S.Store conn.old) → KeepsWhileOpen stored (state S.Store conn.new) }
     ensures unnamed { IfErr result NamesNone }
 {
     match read_entries(conn) {
@@ -140,7 +140,7 @@ fn queue_rows<S: Alter>(
     ensures opened { HasCleanDisk (state S.Store conn.new) → OnOk result (IsTrue (state S.Store conn.old).is_open) }
     ensures clean { HasCleanDisk (state S.Store conn.new) → HasCleanDisk (state S.Store conn.old) }
     ensures mode { (state S.Store conn.old).in_transaction ≡ false → (state S.Store conn.new).in_transaction ≡ false }
-    ensures kept { (stored : Stored) → Kept stored (state S.Store conn.old) → Kept stored (state S.Store conn.new) }
+    ensures kept { (stored : Stored) → KeepsWhileOpen stored (state S.Store conn.old) → KeepsWhileOpen stored (state S.Store conn.new) }
     ensures unnamed { IfErr result NamesNone }
 {
     match read_queue(conn) {
@@ -162,7 +162,7 @@ fn aim_rows<S: Alter>(
     ensures opened { HasCleanDisk (state S.Store conn.new) → OnOk result (IsTrue (state S.Store conn.old).is_open) }
     ensures clean { HasCleanDisk (state S.Store conn.new) → HasCleanDisk (state S.Store conn.old) }
     ensures mode { (state S.Store conn.old).in_transaction ≡ false → (state S.Store conn.new).in_transaction ≡ false }
-    ensures kept { (stored : Stored) → Kept stored (state S.Store conn.old) → Kept stored (state S.Store conn.new) }
+    ensures kept { (stored : Stored) → KeepsWhileOpen stored (state S.Store conn.old) → KeepsWhileOpen stored (state S.Store conn.new) }
     ensures unnamed { IfErr result NamesNone }
 {
     match read_aim(conn) {
@@ -184,7 +184,7 @@ fn shown_rows<S: Alter>(
     ensures opened { HasCleanDisk (state S.Store conn.new) → OnOk result (IsTrue (state S.Store conn.old).is_open) }
     ensures clean { HasCleanDisk (state S.Store conn.new) → HasCleanDisk (state S.Store conn.old) }
     ensures mode { (state S.Store conn.old).in_transaction ≡ false → (state S.Store conn.new).in_transaction ≡ false }
-    ensures kept { (stored : Stored) → Kept stored (state S.Store conn.old) → Kept stored (state S.Store conn.new) }
+    ensures kept { (stored : Stored) → KeepsWhileOpen stored (state S.Store conn.old) → KeepsWhileOpen stored (state S.Store conn.new) }
     ensures unnamed { IfErr result NamesNone }
 {
     match read_shown(conn) {
@@ -203,7 +203,7 @@ pub fn read_tables<S: Alter>(alloc: Global, conn: &mut Connection<S>) -> Result<
     ensures opened { HasCleanDisk (state S.Store conn.new) → OnOk result (IsTrue (state S.Store conn.old).is_open) }
     ensures clean { HasCleanDisk (state S.Store conn.new) → HasCleanDisk (state S.Store conn.old) }
     ensures mode { (state S.Store conn.old).in_transaction ≡ false → (state S.Store conn.new).in_transaction ≡ false }
-    ensures kept { (stored : Stored) → Kept stored (state S.Store conn.old) → Kept stored (state S.Store conn.new) }
+    ensures kept { (stored : Stored) → KeepsWhileOpen stored (state S.Store conn.old) → KeepsWhileOpen stored (state S.Store conn.new) }
     ensures unnamed { IfErr result NamesNone }
 {
     let buckets = bucket_rows(alloc, conn)?;
@@ -227,7 +227,7 @@ pub fn read_state<S: Alter>(
     hashing: Hashing,
     conn: &mut Connection<S>,
 ) -> Result<(State, Items<Queued>), StoreFault>
-    ensures read { HasCleanDisk (state S.Store conn.new) → IsClient (state S.Store conn.old) → IfOk result (λ told. Holds (stored_of told.0 told.1) (tables_of (state S.Store conn.old))) }
+    ensures read { HasCleanDisk (state S.Store conn.new) → IsClient (state S.Store conn.old) → IfOk result (λ told. TablesHold (stored_of told.0 told.1) (tables_of (state S.Store conn.old))) }
     ensures sound { IfOk result (λ told. IsSoundState told.0) }
     ensures queued { IfOk result (λ told. AreQueued told.1 told.0.queue) }
     ensures rising { IfOk result (λ told. AreRising told.1) }
@@ -238,7 +238,7 @@ pub fn read_state<S: Alter>(
     ensures opened { HasCleanDisk (state S.Store conn.new) → OnOk result (IsTrue (state S.Store conn.old).is_open) }
     ensures clean { HasCleanDisk (state S.Store conn.new) → HasCleanDisk (state S.Store conn.old) }
     ensures mode { (state S.Store conn.old).in_transaction ≡ false → (state S.Store conn.new).in_transaction ≡ false }
-    ensures kept { (stored : Stored) → Kept stored (state S.Store conn.old) → Kept stored (state S.Store conn.new) }
+    ensures kept { (stored : Stored) → KeepsWhileOpen stored (state S.Store conn.old) → KeepsWhileOpen stored (state S.Store conn.new) }
 {
     let rows = match read_tables(alloc, conn) {
         Ok(rows) => rows,
@@ -257,7 +257,7 @@ pub fn read_again<S: Alter>(
     conn: &mut Connection<S>,
 ) -> Result<(), StoreFault>
     ensures mode { (state S.Store conn.old).in_transaction ≡ false → (state S.Store conn.new).in_transaction ≡ false }
-    ensures kept { (stored : Stored) → Kept stored (state S.Store conn.old) → Kept stored (state S.Store conn.new) }
+    ensures kept { (stored : Stored) → KeepsWhileOpen stored (state S.Store conn.old) → KeepsWhileOpen stored (state S.Store conn.new) }
 {
     match read_state(alloc, hashing, conn) {
         Ok(_told) => Ok(()),

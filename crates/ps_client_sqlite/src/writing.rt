@@ -5,8 +5,8 @@ ghost use Rattle.std.specs.List.{All};
 ghost use Rattle.sqlite.specs.Held.{state};
 ghost use Rattle.sqlite.specs.State.{HasCleanDisk, KeepsCommit, Survives};
 ghost use Rattle.ps_client_tables.specs.Steps.{IsInside, tables_of};
-ghost use Rattle.ps_client_sqlite.specs.Stored.{Stored, IsWritable, kind_of, number_of, with_writes};
-ghost use Rattle.ps_client_sqlite.specs.Steps.{Kept, LeavesOr, Writes, WritesAll};
+ghost use Rattle.ps_client_sqlite.specs.Stored.{Stored, IsWritableRow, kind_of, target_number, with_writes};
+ghost use Rattle.ps_client_sqlite.specs.Steps.{KeepsWhileOpen, LeavesOr, WritesRow, WritesAll};
 
 use crate::RowWrite;
 use ps_client_log::Target;
@@ -19,7 +19,7 @@ use sqlite::{Alter, Connection, Error, Transaction};
 // The kind of a target and its number, as its row has them.
 fn aim_of(target: Target) -> (u32, u64)
     ensures kind { result.0 ≡ kind_of target }
-    ensures number { result.1 ≡ number_of target }
+    ensures number { result.1 ≡ target_number target }
 {
     match target {
         Target::Free => (0, 0),
@@ -30,11 +30,11 @@ fn aim_of(target: Target) -> (u32, u64)
 
 // Makes a write of the target.
 fn write_aim<S: Alter>(tx: &mut Transaction<'_, S>, target: Target) -> Result<usize, Error>
-    requires { IsWritable (RowWrite.PutAim target) }
+    requires { IsWritableRow (RowWrite.PutAim target) }
     ensures same_reference { tx.new.conn.ghost_name ≡ tx.old.conn.ghost_name }
     ensures inside { HasCleanDisk (state S.Store tx.new.conn.now) → IsInside (state S.Store tx.old.conn.now) → OnOk result (IsInside (state S.Store tx.new.conn.now)) }
     ensures written { HasCleanDisk (state S.Store tx.new.conn.now) → IsInside (state S.Store tx.old.conn.now)
-        → OnOk result (Writes (RowWrite.PutAim target) (tables_of (state S.Store tx.old.conn.now)) (tables_of (state S.Store tx.new.conn.now))) }
+        → OnOk result (WritesRow (RowWrite.PutAim target) (tables_of (state S.Store tx.old.conn.now)) (tables_of (state S.Store tx.new.conn.now))) }
     ensures kept { HasCleanDisk (state S.Store tx.new.conn.now) → KeepsCommit (state S.Store tx.old.conn.now) (state S.Store tx.new.conn.now) }
     ensures survives { Survives (state S.Store tx.old.conn.now) (state S.Store tx.new.conn.now) (λ _. ⊥) }
 {
@@ -44,11 +44,11 @@ fn write_aim<S: Alter>(tx: &mut Transaction<'_, S>, target: Target) -> Result<us
 
 // Makes a write.
 fn write_row<S: Alter>(tx: &mut Transaction<'_, S>, write: &RowWrite) -> Result<usize, Error>
-    requires { IsWritable write.now }
+    requires { IsWritableRow write.now }
     ensures same_reference { tx.new.conn.ghost_name ≡ tx.old.conn.ghost_name }
     ensures inside { HasCleanDisk (state S.Store tx.new.conn.now) → IsInside (state S.Store tx.old.conn.now) → OnOk result (IsInside (state S.Store tx.new.conn.now)) }
     ensures written { HasCleanDisk (state S.Store tx.new.conn.now) → IsInside (state S.Store tx.old.conn.now)
-        → OnOk result (Writes write.now (tables_of (state S.Store tx.old.conn.now)) (tables_of (state S.Store tx.new.conn.now))) }
+        → OnOk result (WritesRow write.now (tables_of (state S.Store tx.old.conn.now)) (tables_of (state S.Store tx.new.conn.now))) }
     ensures kept { HasCleanDisk (state S.Store tx.new.conn.now) → KeepsCommit (state S.Store tx.old.conn.now) (state S.Store tx.new.conn.now) }
     ensures survives { Survives (state S.Store tx.old.conn.now) (state S.Store tx.new.conn.now) (λ _. ⊥) }
 {
@@ -73,7 +73,7 @@ fn write_row<S: Alter>(tx: &mut Transaction<'_, S>, write: &RowWrite) -> Result<
 
 // Makes writes, one after another.
 fn write_rows<S: Alter>(tx: &mut Transaction<'_, S>, writes: &[RowWrite]) -> Result<(), Error>
-    requires { All IsWritable writes.now }
+    requires { All IsWritableRow writes.now }
     ensures same_reference { tx.new.conn.ghost_name ≡ tx.old.conn.ghost_name }
     ensures inside { HasCleanDisk (state S.Store tx.new.conn.now) → IsInside (state S.Store tx.old.conn.now) → OnOk result (IsInside (state S.Store tx.new.conn.now)) }
     ensures written { HasCleanDisk (state S.Store tx.new.conn.now) → IsInside (state S.Store tx.old.conn.now)
@@ -90,11 +90,11 @@ fn write_rows<S: Alter>(tx: &mut Transaction<'_, S>, writes: &[RowWrite]) -> Res
 /// Makes writes, all in one transaction or none. Fails where a statement is refused; what the tables held stands then.
 pub fn write_all<S: Alter>(conn: &mut Connection<S>, writes: &[RowWrite]) -> Result<(), Error>
     requires outside { (state S.Store conn.old).in_transaction ≡ false }
-    requires writable { All IsWritable writes.now }
+    requires writable { All IsWritableRow writes.now }
     ensures outside { (state S.Store conn.new).in_transaction ≡ false }
-    ensures ok { (stored : Stored) → Kept stored (state S.Store conn.old) → OnOk result (Kept (with_writes stored writes.now) (state S.Store conn.new)) }
-    ensures err { (stored : Stored) → Kept stored (state S.Store conn.old) → OnErr result (Kept stored (state S.Store conn.new)) }
-    ensures crash { (stored : Stored) → Kept stored (state S.Store conn.old) → LeavesOr (state S.Store conn.old) (state S.Store conn.new) (with_writes stored writes.now) }
+    ensures ok { (stored : Stored) → KeepsWhileOpen stored (state S.Store conn.old) → OnOk result (KeepsWhileOpen (with_writes stored writes.now) (state S.Store conn.new)) }
+    ensures err { (stored : Stored) → KeepsWhileOpen stored (state S.Store conn.old) → OnErr result (KeepsWhileOpen stored (state S.Store conn.new)) }
+    ensures crash { (stored : Stored) → KeepsWhileOpen stored (state S.Store conn.old) → LeavesOr (state S.Store conn.old) (state S.Store conn.new) (with_writes stored writes.now) }
 {
     let mut tx = conn.transaction();
     write_rows(&mut tx, writes)?;

@@ -17,7 +17,7 @@ use Rattle.sqlite.proofs.Callers.{IsPlain, command_of, statement_of, runs_as}
 use Rattle.ps_client_tables.specs.Schemas.{no_schema, buckets_schema, entries_schema, queue_schema, aim_schema, client_schema, buckets_table, entries_table, queue_table, aim_table, shown_table}
 use Rattle.ps_client_tables.specs.Statements.{make_buckets_text, make_entries_text, make_queue_text, make_aim_text, make_shown_text}
 use Rattle.ps_client_tables.specs.Tables.{no_rows}
-use Rattle.ps_client_tables.specs.Steps.{IsMade, tables_of}
+use Rattle.ps_client_tables.specs.Steps.{TablesAreMade, tables_of}
 use Rattle.ps_client_tables.proofs.Writing.{went, same_value}
 
 -- what the text is under the schema
@@ -104,7 +104,7 @@ still_empty [] more old new were kept empty = (empty, tt)
 still_empty (t ∷ tables) more old new were kept empty = (kept.0 ∙ were.0, still_empty tables more old new were.1 kept.1 empty)
 
 makes : (schema next : Schema) (sql : List ℕ) (table placed : Table) → Defines schema sql table → created schema table ≡ next → next.tables ≡ schema.tables ++ placed ∷ [] → next_tree schema ≡ placed.tree
-    → (old new : State) (r : Result ℕ Error) → IsMade schema old → ExecutesInside 0 sql [] old new r → OnOk r (IsMade next new)
+    → (old new : State) (r : Result ℕ Error) → TablesAreMade schema old → ExecutesInside 0 sql [] old new r → OnOk r (TablesAreMade next new)
 makes schema next sql table placed defines is listed tree old new (Err e) made h = tt
 makes schema next sql table placed defines is listed tree old new (Ok count) made h =
     let it = creates schema sql table defines old new count made.schema_is h in
@@ -115,23 +115,23 @@ makes schema next sql table placed defines is listed tree old new (Ok count) mad
           (still_empty schema.tables placed old.now.trees new.now.trees made.empty it.others (subst (λ n. new.now.trees n ≡ []) tree it.empty));
     }
 
-pub makes_buckets : (old new : State) (r : Result ℕ Error) → IsMade no_schema old → ExecutesInside 0 make_buckets_text [] old new r → OnOk r (IsMade buckets_schema new)
+pub makes_buckets : (old new : State) (r : Result ℕ Error) → TablesAreMade no_schema old → ExecutesInside 0 make_buckets_text [] old new r → OnOk r (TablesAreMade buckets_schema new)
 makes_buckets = makes no_schema buckets_schema make_buckets_text (unplaced buckets_table) buckets_table buckets_defined buckets_created refl refl
 
-pub makes_entries : (old new : State) (r : Result ℕ Error) → IsMade buckets_schema old → ExecutesInside 0 make_entries_text [] old new r → OnOk r (IsMade entries_schema new)
+pub makes_entries : (old new : State) (r : Result ℕ Error) → TablesAreMade buckets_schema old → ExecutesInside 0 make_entries_text [] old new r → OnOk r (TablesAreMade entries_schema new)
 makes_entries = makes buckets_schema entries_schema make_entries_text (unplaced entries_table) entries_table entries_defined entries_created refl refl
 
-pub makes_queue : (old new : State) (r : Result ℕ Error) → IsMade entries_schema old → ExecutesInside 0 make_queue_text [] old new r → OnOk r (IsMade queue_schema new)
+pub makes_queue : (old new : State) (r : Result ℕ Error) → TablesAreMade entries_schema old → ExecutesInside 0 make_queue_text [] old new r → OnOk r (TablesAreMade queue_schema new)
 makes_queue = makes entries_schema queue_schema make_queue_text (unplaced queue_table) queue_table queue_defined queue_created refl refl
 
-pub makes_aim : (old new : State) (r : Result ℕ Error) → IsMade queue_schema old → ExecutesInside 0 make_aim_text [] old new r → OnOk r (IsMade aim_schema new)
+pub makes_aim : (old new : State) (r : Result ℕ Error) → TablesAreMade queue_schema old → ExecutesInside 0 make_aim_text [] old new r → OnOk r (TablesAreMade aim_schema new)
 makes_aim = makes queue_schema aim_schema make_aim_text (unplaced aim_table) aim_table aim_defined aim_created refl refl
 
-pub makes_shown : (old new : State) (r : Result ℕ Error) → IsMade aim_schema old → ExecutesInside 0 make_shown_text [] old new r → OnOk r (IsMade client_schema new)
+pub makes_shown : (old new : State) (r : Result ℕ Error) → TablesAreMade aim_schema old → ExecutesInside 0 make_shown_text [] old new r → OnOk r (TablesAreMade client_schema new)
 makes_shown = makes aim_schema client_schema make_shown_text (unplaced shown_table) shown_table shown_defined shown_created refl refl
 
 -- the tables are empty then
-pub makes_all : (old new : State) (r : Result ℕ Error) → IsMade aim_schema old → ExecutesInside 0 make_shown_text [] old new r → OnOk r (tables_of new ≡ no_rows)
+pub makes_all : (old new : State) (r : Result ℕ Error) → TablesAreMade aim_schema old → ExecutesInside 0 make_shown_text [] old new r → OnOk r (tables_of new ≡ no_rows)
 makes_all old new (Err e) made h = tt
 makes_all old new (Ok count) made h =
     let it = (makes_shown old new (Ok count) made h).empty in

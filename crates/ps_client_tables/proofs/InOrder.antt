@@ -13,7 +13,7 @@ use Rattle.sqlite_sql.specs.Query.{Output, output_cmp}
 use Rattle.sqlite_sql.proofs.QueryLemmas.{output_cmp_total}
 use Rattle.sqlite.specs.State.{State, Shown}
 use Rattle.ps_client_tables.specs.Schemas.{client_schema}
-use Rattle.ps_client_tables.specs.Lines.{AreInOrder}
+use Rattle.ps_client_tables.specs.Lines.{AreByFirstColumn}
 use Rattle.ps_client_tables.proofs.Texts.{IsRead, listing}
 use Rattle.ps_client_tables.proofs.Reading.{of_row, Listed, listed}
 
@@ -67,7 +67,7 @@ module _ (sql : List ℕ) (tree first : ℕ) (columns keys : List ℕ) (names : 
   by_first : (r s : Row) → output_cmp (listing tree (first ∷ columns) (first ∷ keys)) (out r) (out s) ≢ Greater → value_cmp (column r first) (column s first) ≢ Greater
   by_first r s up past = up (then_greater (value_cmp (column r first) (column s first)) _ past)
 
-  pub shows_sorted : (old new : State) (rows : List Row) → old.now.schema ≡ client_schema → Shown sql [] old new rows → AreInOrder rows
+  pub shows_sorted : (old new : State) (rows : List Row) → old.now.schema ≡ client_schema → Shown sql [] old new rows → AreByFirstColumn rows
   shows_sorted old new rows has h i j d before within =
       let q = listing tree (first ∷ columns) (first ∷ keys) in
       let it = listed sql tree (first ∷ columns) (first ∷ keys) names text old new rows has h in

@@ -22,8 +22,8 @@ use Rattle.sqlite.specs.State.{State, ExecutesInside}
 use Rattle.ps_bucket_log.specs.declared.ops.Key.{Key}
 use Rattle.ps_client_tables.specs.Schemas.{client_schema, buckets_table, entries_table, queue_table, aim_table, shown_table}
 use Rattle.ps_client_tables.specs.Statements as text
-use Rattle.ps_client_tables.specs.Tables.{Tables, AreRows, less, bucket_row, is_bucket, put_bucket, drop_bucket, entry_row, is_entry, put_entry, drop_entry, queued_row, put_queued, drop_queued, aim_row, put_aim, shown_row, is_shown, put_shown, drop_shown}
-use Rattle.ps_client_tables.specs.Steps.{IsInside, Turns}
+use Rattle.ps_client_tables.specs.Tables.{Tables, AreRows, less, bucket_row, is_bucket, put_bucket, drop_bucket, entry_row, is_entry_row, put_entry, drop_entry, queued_row, put_queued, drop_queued, aim_row, put_aim, shown_row, is_shown, put_shown, drop_shown}
+use Rattle.ps_client_tables.specs.Steps.{IsInside, EditsTables}
 use Rattle.ps_client_tables.proofs.Tests.{equal_int, equal_text, and_true, or_false, cast_int, cast_null}
 use Rattle.ps_client_tables.proofs.Texts as is
 use Rattle.ps_client_tables.proofs.Putting.{Becomes, put_becomes, drop_becomes}
@@ -31,7 +31,7 @@ use Rattle.ps_client_tables.proofs.Putting.{Becomes, put_becomes, drop_becomes}
 -- ---- a table has other rows, and each other table has its own
 
 module _ (old new : State) (rows : List Row) (inside : IsInside old) (in_order : AreRows rows) where
-  on_buckets : Becomes 0 rows old new → Turns (λ (tables : Tables). record tables { buckets = rows }) old new
+  on_buckets : Becomes 0 rows old new → EditsTables (λ (tables : Tables). record tables { buckets = rows }) old new
   on_buckets h =
       let others = h.sets.others in
       let buckets : new.now.trees 0 ≡ rows = h.sets.rows_are in
@@ -57,7 +57,7 @@ module _ (old new : State) (rows : List Row) (inside : IsInside old) (in_order :
         tables = λ i. record { buckets = buckets i; entries = entries i; queue = queue i; aim = aim i; shown = shown i };
       }
 
-  on_entries : Becomes 2 rows old new → Turns (λ (tables : Tables). record tables { entries = rows }) old new
+  on_entries : Becomes 2 rows old new → EditsTables (λ (tables : Tables). record tables { entries = rows }) old new
   on_entries h =
       let others = h.sets.others in
       let buckets : new.now.trees 0 ≡ old.now.trees 0 = others.0 (λ e. omega arith) in
@@ -83,7 +83,7 @@ module _ (old new : State) (rows : List Row) (inside : IsInside old) (in_order :
         tables = λ i. record { buckets = buckets i; entries = entries i; queue = queue i; aim = aim i; shown = shown i };
       }
 
-  on_queue : Becomes 4 rows old new → Turns (λ (tables : Tables). record tables { queue = rows }) old new
+  on_queue : Becomes 4 rows old new → EditsTables (λ (tables : Tables). record tables { queue = rows }) old new
   on_queue h =
       let others = h.sets.others in
       let buckets : new.now.trees 0 ≡ old.now.trees 0 = others.0 (λ e. omega arith) in
@@ -109,7 +109,7 @@ module _ (old new : State) (rows : List Row) (inside : IsInside old) (in_order :
         tables = λ i. record { buckets = buckets i; entries = entries i; queue = queue i; aim = aim i; shown = shown i };
       }
 
-  on_aim : Becomes 5 rows old new → Turns (λ (tables : Tables). record tables { aim = rows }) old new
+  on_aim : Becomes 5 rows old new → EditsTables (λ (tables : Tables). record tables { aim = rows }) old new
   on_aim h =
       let others = h.sets.others in
       let buckets : new.now.trees 0 ≡ old.now.trees 0 = others.0 (λ e. omega arith) in
@@ -135,7 +135,7 @@ module _ (old new : State) (rows : List Row) (inside : IsInside old) (in_order :
         tables = λ i. record { buckets = buckets i; entries = entries i; queue = queue i; aim = aim i; shown = shown i };
       }
 
-  on_shown : Becomes 6 rows old new → Turns (λ (tables : Tables). record tables { shown = rows }) old new
+  on_shown : Becomes 6 rows old new → EditsTables (λ (tables : Tables). record tables { shown = rows }) old new
   on_shown h =
       let others = h.sets.others in
       let buckets : new.now.trees 0 ≡ old.now.trees 0 = others.0 (λ e. omega arith) in
@@ -195,7 +195,7 @@ module _ (old new : State) (name : List ℕ) (position added : ℕ) (inside : Is
   bucket_cast_new : cast_row buckets_table (Null ∷ bucket_row name position added) ≡ Null ∷ bucket_row name position added
   bucket_cast_new = rw (cast_null, cast_int (pos position), cast_int (pos added))
 
-  pub puts_bucket : (r : Result ℕ Error) → ExecutesInside 0 text.put_bucket_text (Text name ∷ Int (pos position) ∷ Int (pos added) ∷ []) old new r → OnOk r (Turns (put_bucket name position added) old new)
+  pub puts_bucket : (r : Result ℕ Error) → ExecutesInside 0 text.put_bucket_text (Text name ∷ Int (pos position) ∷ Int (pos added) ∷ []) old new r → OnOk r (EditsTables (put_bucket name position added) old new)
   puts_bucket (Err e) h = tt
   puts_bucket (Ok count) h =
       let params = Text name ∷ Int (pos position) ∷ Int (pos added) ∷ [] in
@@ -207,7 +207,7 @@ module _ (old new : State) (name : List ℕ) (position added : ℕ) (inside : Is
       record { inside = turned.inside; tables = turned.tables }
 
 module _ (old new : State) (name : List ℕ) (inside : IsInside old) where
-  pub drops_bucket : (r : Result ℕ Error) → ExecutesInside 0 text.drop_bucket_text (Text name ∷ []) old new r → OnOk r (Turns (drop_bucket name) old new)
+  pub drops_bucket : (r : Result ℕ Error) → ExecutesInside 0 text.drop_bucket_text (Text name ∷ []) old new r → OnOk r (EditsTables (drop_bucket name) old new)
   drops_bucket (Err e) h = tt
   drops_bucket (Ok count) h =
       let it = drop_becomes old new (Text name ∷ []) buckets_table count inside.client.schema inside.client.tables.buckets (λ olds news. refl) text.drop_bucket_text 0 refl h
@@ -224,7 +224,7 @@ module _ (old new : State) (bucket : List ℕ) (key : Key) (op : ℕ) (content :
   abbrev entry : Row
   entry = entry_row bucket key op content sum
 
-  entry_conflict : (r : Row) → Has entries r → conflicts None client_schema.indexes entries_table (Int (next_rowid entries) ∷ entry) r ≡ is_entry bucket key r
+  entry_conflict : (r : Row) → Has entries r → conflicts None client_schema.indexes entries_table (Int (next_rowid entries) ∷ entry) r ≡ is_entry_row bucket key r
   unfolding first_key
   entry_conflict r h =
       ap (λ b. (b && true) || ((equal Binary (column r 1) (Text bucket) && (equal Binary (column r 2) (Text key.kind) && (equal Binary (column r 3) (Text key.id) && (equal Binary (column r 4) (Text key.subkey) && true)))) || false))
@@ -237,24 +237,24 @@ module _ (old new : State) (bucket : List ℕ) (key : Key) (op : ℕ) (content :
   entry_cast_new : cast_row entries_table (Null ∷ entry) ≡ Null ∷ entry
   entry_cast_new = rw (cast_null, cast_int (pos op), cast_int (pos sum))
 
-  pub puts_entry : (r : Result ℕ Error) → ExecutesInside 0 text.put_entry_text entry old new r → OnOk r (Turns (put_entry bucket key op content sum) old new)
+  pub puts_entry : (r : Result ℕ Error) → ExecutesInside 0 text.put_entry_text entry old new r → OnOk r (EditsTables (put_entry bucket key op content sum) old new)
   puts_entry (Err e) h = tt
   puts_entry (Ok count) h =
       let it = put_becomes old new entry entries_table count inside.client.schema inside.client.tables.entries (λ olds news. refl) text.put_entry_text 1 refl h
-      is.entry_terms 8 is.put_entry_is refl (Null ∷ entry) (Int (next_rowid entries) ∷ entry) (is_entry bucket key) refl
+      is.entry_terms 8 is.put_entry_is refl (Null ∷ entry) (Int (next_rowid entries) ∷ entry) (is_entry_row bucket key) refl
       (subst (λ x. cast_row entries_table (with_rowid Chosen entries x) ≡ Int (next_rowid entries) ∷ entry) (sym entry_cast_new) (entry_cast (next_rowid entries)))
-      (λ r at. subst (λ x. conflicts None client_schema.indexes entries_table (with_rowid Chosen entries x) r ≡ is_entry bucket key r) (sym entry_cast_new) (entry_conflict r at)) in
-      let turned = on_entries old new _ inside (put_in_order (is_entry bucket key) (next_rowid entries) entry entries inside.client.tables.entries) it in
+      (λ r at. subst (λ x. conflicts None client_schema.indexes entries_table (with_rowid Chosen entries x) r ≡ is_entry_row bucket key r) (sym entry_cast_new) (entry_conflict r at)) in
+      let turned = on_entries old new _ inside (put_in_order (is_entry_row bucket key) (next_rowid entries) entry entries inside.client.tables.entries) it in
       record { inside = turned.inside; tables = turned.tables }
 
 module _ (old new : State) (bucket : List ℕ) (key : Key) (inside : IsInside old) where
-  pub drops_entry : (r : Result ℕ Error) → ExecutesInside 0 text.drop_entry_text (Text bucket ∷ Text key.kind ∷ Text key.id ∷ Text key.subkey ∷ []) old new r → OnOk r (Turns (drop_entry bucket key) old new)
+  pub drops_entry : (r : Result ℕ Error) → ExecutesInside 0 text.drop_entry_text (Text bucket ∷ Text key.kind ∷ Text key.id ∷ Text key.subkey ∷ []) old new r → OnOk r (EditsTables (drop_entry bucket key) old new)
   drops_entry (Err e) h = tt
   drops_entry (Ok count) h =
       let it = drop_becomes old new (Text bucket ∷ Text key.kind ∷ Text key.id ∷ Text key.subkey ∷ []) entries_table count inside.client.schema inside.client.tables.entries (λ olds news. refl) text.drop_entry_text 1 refl h
-      is.entry_tests is.drop_entry_is (is_entry bucket key)
+      is.entry_tests is.drop_entry_is (is_entry_row bucket key)
       (λ r. ap₂ ◌&&◌ (equal_text (column r 1) bucket) (ap₂ ◌&&◌ (equal_text (column r 2) key.kind) (ap₂ ◌&&◌ (equal_text (column r 3) key.id) (and_true _ ∙ equal_text (column r 4) key.subkey)))) in
-      let turned = on_entries old new _ inside (less_in_order (is_entry bucket key) (old.now.trees 2) inside.client.tables.entries) it in
+      let turned = on_entries old new _ inside (less_in_order (is_entry_row bucket key) (old.now.trees 2) inside.client.tables.entries) it in
       record { inside = turned.inside; tables = turned.tables }
 
 -- ---- the queue
@@ -267,7 +267,7 @@ module _ (old new : State) (seq : ℤ) (change : List ℕ) (inside : IsInside ol
   unfolding first_key
   queued_conflict r = or_false _ ∙ and_true _ ∙ equal_int (rowid r) seq
 
-  pub puts_queued : (r : Result ℕ Error) → ExecutesInside 0 text.put_queued_text (Int seq ∷ Text change ∷ []) old new r → OnOk r (Turns (put_queued seq change) old new)
+  pub puts_queued : (r : Result ℕ Error) → ExecutesInside 0 text.put_queued_text (Int seq ∷ Text change ∷ []) old new r → OnOk r (EditsTables (put_queued seq change) old new)
   puts_queued (Err e) h = tt
   puts_queued (Ok count) h =
       let it = put_becomes old new (Int seq ∷ Text change ∷ []) queue_table count inside.client.schema inside.client.tables.queue (λ olds news. refl) text.put_queued_text 2 refl h
@@ -278,7 +278,7 @@ module _ (old new : State) (seq : ℤ) (change : List ℕ) (inside : IsInside ol
       record { inside = turned.inside; tables = turned.tables }
 
 module _ (old new : State) (seq : ℤ) (inside : IsInside old) where
-  pub drops_queued : (r : Result ℕ Error) → ExecutesInside 0 text.drop_queued_text (Int seq ∷ []) old new r → OnOk r (Turns (drop_queued seq) old new)
+  pub drops_queued : (r : Result ℕ Error) → ExecutesInside 0 text.drop_queued_text (Int seq ∷ []) old new r → OnOk r (EditsTables (drop_queued seq) old new)
   drops_queued (Err e) h = tt
   drops_queued (Ok count) h =
       let it = drop_becomes old new (Int seq ∷ []) queue_table count inside.client.schema inside.client.tables.queue (λ olds news. refl) text.drop_queued_text 2 refl h
@@ -296,7 +296,7 @@ module _ (old new : State) (kind number : ℕ) (inside : IsInside old) where
   unfolding first_key
   aim_conflict r = or_false _ ∙ and_true _ ∙ equal_int (rowid r) (pos 1)
 
-  pub puts_aim : (r : Result ℕ Error) → ExecutesInside 0 text.put_aim_text (Int (pos kind) ∷ Int (pos number) ∷ []) old new r → OnOk r (Turns (put_aim kind number) old new)
+  pub puts_aim : (r : Result ℕ Error) → ExecutesInside 0 text.put_aim_text (Int (pos kind) ∷ Int (pos number) ∷ []) old new r → OnOk r (EditsTables (put_aim kind number) old new)
   puts_aim (Err e) h = tt
   puts_aim (Ok count) h =
       let it = put_becomes old new (Int (pos kind) ∷ Int (pos number) ∷ []) aim_table count inside.client.schema inside.client.tables.aim (λ olds news. refl) text.put_aim_text 3 refl h
@@ -324,7 +324,7 @@ module _ (old new : State) (kind id content : List ℕ) (inside : IsInside old) 
   shown_cast_new : cast_row shown_table (Null ∷ shown_row kind id content) ≡ Null ∷ shown_row kind id content
   shown_cast_new = rw cast_null
 
-  pub puts_shown : (r : Result ℕ Error) → ExecutesInside 0 text.put_shown_text (shown_row kind id content) old new r → OnOk r (Turns (put_shown kind id content) old new)
+  pub puts_shown : (r : Result ℕ Error) → ExecutesInside 0 text.put_shown_text (shown_row kind id content) old new r → OnOk r (EditsTables (put_shown kind id content) old new)
   puts_shown (Err e) h = tt
   puts_shown (Ok count) h =
       let it = put_becomes old new (shown_row kind id content) shown_table count inside.client.schema inside.client.tables.shown (λ olds news. refl) text.put_shown_text 4 refl h
@@ -335,7 +335,7 @@ module _ (old new : State) (kind id content : List ℕ) (inside : IsInside old) 
       record { inside = turned.inside; tables = turned.tables }
 
 module _ (old new : State) (kind id : List ℕ) (inside : IsInside old) where
-  pub drops_shown : (r : Result ℕ Error) → ExecutesInside 0 text.drop_shown_text (Text kind ∷ Text id ∷ []) old new r → OnOk r (Turns (drop_shown kind id) old new)
+  pub drops_shown : (r : Result ℕ Error) → ExecutesInside 0 text.drop_shown_text (Text kind ∷ Text id ∷ []) old new r → OnOk r (EditsTables (drop_shown kind id) old new)
   drops_shown (Err e) h = tt
   drops_shown (Ok count) h =
       let it = drop_becomes old new (Text kind ∷ Text id ∷ []) shown_table count inside.client.schema inside.client.tables.shown (λ olds news. refl) text.drop_shown_text 4 refl h

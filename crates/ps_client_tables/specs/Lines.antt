@@ -21,5 +21,5 @@ abbrev pub shown_line : Row → Row
 shown_line kept = column kept 1 ∷ column kept 2 ∷ column kept 3 ∷ []
 
 -- no row's first column is past that of a row behind it
-abbrev pub AreInOrder : List Row → Type 0
-AreInOrder rows = AllPairs (λ a b. value_cmp (column a 0) (column b 0) ≢ Greater) rows
+abbrev pub AreByFirstColumn : List Row → Type 0
+AreByFirstColumn rows = AllPairs (λ a b. value_cmp (column a 0) (column b 0) ≢ Greater) rows

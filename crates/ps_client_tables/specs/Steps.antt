@@ -20,12 +20,12 @@ pub record IsInside (s : State) : Type 0 where
   pub client : IsClient s
 
 -- the tables are edited, inside the transaction
-pub record Turns (edit : Tables → Tables) (old new : State) : Type 0 where
+pub record EditsTables (edit : Tables → Tables) (old new : State) : Type 0 where
   pub inside : IsInside new
   pub tables : tables_of new ≡ edit (tables_of old)
 
 -- a transaction over a database of this schema, whose tables are empty
-pub record IsMade (schema : Schema) (s : State) : Type 0 where
+pub record TablesAreMade (schema : Schema) (s : State) : Type 0 where
   pub inside : IsTrue s.in_transaction
   pub schema_is : s.now.schema ≡ schema
   pub empty : AllByRecursion (λ table. s.now.trees table.tree ≡ []) schema.tables

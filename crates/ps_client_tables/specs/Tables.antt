@@ -43,8 +43,8 @@ abbrev pub replaced : (Row → Bool) → Row → List Row → List Row
 replaced test columns rows = put_row (Int (next_rowid rows) ∷ columns) (less test rows)
 
 -- whether a row has this text in this column
-abbrev pub has_text : ℕ → List ℕ → Row → Bool
-has_text at text row = is_eq (value_cmp (column row at) (Text text))
+abbrev pub column_has_text : ℕ → List ℕ → Row → Bool
+column_has_text at text row = is_eq (value_cmp (column row at) (Text text))
 
 -- ---- the rows of each table, found by its primary key
 
@@ -52,14 +52,14 @@ abbrev pub bucket_row : List ℕ → ℕ → ℕ → Row
 bucket_row name position added = Text name ∷ Int (pos position) ∷ Int (pos added) ∷ []
 
 abbrev pub is_bucket : List ℕ → Row → Bool
-is_bucket name row = has_text 1 name row
+is_bucket name row = column_has_text 1 name row
 
 abbrev pub entry_row : List ℕ → Key → ℕ → List ℕ → ℕ → Row
 entry_row bucket key op content sum =
     Text bucket ∷ Text key.kind ∷ Text key.id ∷ Text key.subkey ∷ Int (pos op) ∷ Text content ∷ Int (pos sum) ∷ []
 
-abbrev pub is_entry : List ℕ → Key → Row → Bool
-is_entry bucket key row = has_text 1 bucket row && (has_text 2 key.kind row && (has_text 3 key.id row && has_text 4 key.subkey row))
+abbrev pub is_entry_row : List ℕ → Key → Row → Bool
+is_entry_row bucket key row = column_has_text 1 bucket row && (column_has_text 2 key.kind row && (column_has_text 3 key.id row && column_has_text 4 key.subkey row))
 
 -- the number of a local write is the rowid, and the column of the number stays empty
 abbrev pub queued_row : ℤ → List ℕ → Row
@@ -73,7 +73,7 @@ abbrev pub shown_row : List ℕ → List ℕ → List ℕ → Row
 shown_row kind id content = Text kind ∷ Text id ∷ Text content ∷ []
 
 abbrev pub is_shown : List ℕ → List ℕ → Row → Bool
-is_shown kind id row = has_text 1 kind row && has_text 2 id row
+is_shown kind id row = column_has_text 1 kind row && column_has_text 2 id row
 
 -- ---- what the texts make of the tables
 
@@ -85,10 +85,10 @@ drop_bucket name tables = record tables { buckets = less (is_bucket name) tables
 
 abbrev pub put_entry : List ℕ → Key → ℕ → List ℕ → ℕ → Tables → Tables
 put_entry bucket key op content sum tables =
-    record tables { entries = replaced (is_entry bucket key) (entry_row bucket key op content sum) tables.entries }
+    record tables { entries = replaced (is_entry_row bucket key) (entry_row bucket key op content sum) tables.entries }
 
 abbrev pub drop_entry : List ℕ → Key → Tables → Tables
-drop_entry bucket key tables = record tables { entries = less (is_entry bucket key) tables.entries }
+drop_entry bucket key tables = record tables { entries = less (is_entry_row bucket key) tables.entries }
 
 -- the local write stands under its number, and nothing else does
 abbrev pub put_queued : ℤ → List ℕ → Tables → Tables

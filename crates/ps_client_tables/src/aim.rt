@@ -6,7 +6,7 @@ ghost use Rattle.sqlite.specs.State.{HasCleanDisk, IsUnchanged, KeepsCommit, Sur
 ghost use Rattle.ps_data.specs.Numbers.{greatest};
 ghost use Rattle.ps_client_tables.specs.Tables.{put_aim};
 ghost use Rattle.ps_client_tables.specs.Lines.{aim_line};
-ghost use Rattle.ps_client_tables.specs.Steps.{IsClient, IsInside, IsLeft, Turns, tables_of};
+ghost use Rattle.ps_client_tables.specs.Steps.{IsClient, IsInside, IsLeft, EditsTables, tables_of};
 
 use crate::running::{run, signed};
 use sqlite::{Alter, Connection, Error, Row, Transaction, params};
@@ -19,7 +19,7 @@ pub fn put_aim<S: Alter>(
     requires { number ≤ greatest }
     ensures same_reference { tx.new.conn.ghost_name ≡ tx.old.conn.ghost_name }
     ensures put { HasCleanDisk (state S.Store tx.new.conn.now) → IsInside (state S.Store tx.old.conn.now)
-        → OnOk result (Turns (put_aim kind number) (state S.Store tx.old.conn.now) (state S.Store tx.new.conn.now)) }
+        → OnOk result (EditsTables (put_aim kind number) (state S.Store tx.old.conn.now) (state S.Store tx.new.conn.now)) }
     ensures kept { HasCleanDisk (state S.Store tx.new.conn.now) → KeepsCommit (state S.Store tx.old.conn.now) (state S.Store tx.new.conn.now) }
     ensures survives { Survives (state S.Store tx.old.conn.now) (state S.Store tx.new.conn.now) (λ _. ⊥) }
 {

@@ -5,8 +5,8 @@ ghost use Rattle.sqlite.specs.Held.{state};
 ghost use Rattle.sqlite.specs.State.{HasCleanDisk, IsUnchanged, KeepsCommit, Survives};
 ghost use Rattle.ps_data.specs.Numbers.{greatest};
 ghost use Rattle.ps_client_tables.specs.Tables.{put_entry, drop_entry};
-ghost use Rattle.ps_client_tables.specs.Lines.{entry_line, AreInOrder};
-ghost use Rattle.ps_client_tables.specs.Steps.{IsClient, IsInside, IsLeft, Turns, tables_of};
+ghost use Rattle.ps_client_tables.specs.Lines.{entry_line, AreByFirstColumn};
+ghost use Rattle.ps_client_tables.specs.Steps.{IsClient, IsInside, IsLeft, EditsTables, tables_of};
 
 use crate::running::{run, signed};
 use ps_bucket_log::Key;
@@ -24,7 +24,7 @@ pub fn put_entry<S: Alter>(
     requires { op.0 ≤ greatest }
     ensures same_reference { tx.new.conn.ghost_name ≡ tx.old.conn.ghost_name }
     ensures put { HasCleanDisk (state S.Store tx.new.conn.now) → IsInside (state S.Store tx.old.conn.now)
-        → OnOk result (Turns (put_entry bucket.now key.now op.0 content.now sum) (state S.Store tx.old.conn.now) (state S.Store tx.new.conn.now)) }
+        → OnOk result (EditsTables (put_entry bucket.now key.now op.0 content.now sum) (state S.Store tx.old.conn.now) (state S.Store tx.new.conn.now)) }
     ensures kept { HasCleanDisk (state S.Store tx.new.conn.now) → KeepsCommit (state S.Store tx.old.conn.now) (state S.Store tx.new.conn.now) }
     ensures survives { Survives (state S.Store tx.old.conn.now) (state S.Store tx.new.conn.now) (λ _. ⊥) }
 {
@@ -51,7 +51,7 @@ pub fn drop_entry<S: Alter>(
 ) -> Result<usize, Error>
     ensures same_reference { tx.new.conn.ghost_name ≡ tx.old.conn.ghost_name }
     ensures dropped { HasCleanDisk (state S.Store tx.new.conn.now) → IsInside (state S.Store tx.old.conn.now)
-        → OnOk result (Turns (drop_entry bucket.now key.now) (state S.Store tx.old.conn.now) (state S.Store tx.new.conn.now)) }
+        → OnOk result (EditsTables (drop_entry bucket.now key.now) (state S.Store tx.old.conn.now) (state S.Store tx.new.conn.now)) }
     ensures kept { HasCleanDisk (state S.Store tx.new.conn.now) → KeepsCommit (state S.Store tx.old.conn.now) (state S.Store tx.new.conn.now) }
     ensures survives { Survives (state S.Store tx.old.conn.now) (state S.Store tx.new.conn.now) (λ _. ⊥) }
 {
@@ -71,7 +71,7 @@ pub fn drop_entry<S: Alter>(
 pub fn read_entries<S: Alter>(conn: &mut Connection<S>) -> Result<Vec<Row>, Error>
     ensures read { HasCleanDisk (state S.Store conn.new) → IsClient (state S.Store conn.old)
         → IfOk result (λ rows. IsPermutation (map entry_line (tables_of (state S.Store conn.old)).entries) rows.items) }
-    ensures sorted { HasCleanDisk (state S.Store conn.new) → IsClient (state S.Store conn.old) → IfOk result (λ rows. AreInOrder rows.items) }
+    ensures sorted { HasCleanDisk (state S.Store conn.new) → IsClient (state S.Store conn.old) → IfOk result (λ rows. AreByFirstColumn rows.items) }
     ensures same { HasCleanDisk (state S.Store conn.new) → IsClient (state S.Store conn.old)
         → OnOk result (IsUnchanged (state S.Store conn.old) (state S.Store conn.new)) }
     ensures refused { HasCleanDisk (state S.Store conn.new) → OnErr result (IsLeft (state S.Store conn.old) (state S.Store conn.new)) }

@@ -5,7 +5,7 @@ ghost use Rattle.sqlite.specs.Held.{state};
 ghost use Rattle.sqlite.specs.State.{HasCleanDisk, KeepsCommit, Survives};
 ghost use Rattle.ps_client_tables.specs.Schemas.{no_schema, buckets_schema, entries_schema, queue_schema, aim_schema, client_schema};
 ghost use Rattle.ps_client_tables.specs.Tables.{no_rows};
-ghost use Rattle.ps_client_tables.specs.Steps.{IsFresh, IsMade, tables_of};
+ghost use Rattle.ps_client_tables.specs.Steps.{IsFresh, TablesAreMade, tables_of};
 
 use crate::running::run;
 use sqlite::{Alter, Connection, Error, Transaction};
@@ -13,8 +13,8 @@ use sqlite::{Alter, Connection, Error, Transaction};
 // Makes the table of buckets, in a database that has no table.
 fn make_buckets<S: Alter>(tx: &mut Transaction<'_, S>) -> Result<usize, Error>
     ensures same_reference { tx.new.conn.ghost_name ≡ tx.old.conn.ghost_name }
-    ensures made { HasCleanDisk (state S.Store tx.new.conn.now) → IsMade no_schema (state S.Store tx.old.conn.now)
-        → OnOk result (IsMade buckets_schema (state S.Store tx.new.conn.now)) }
+    ensures made { HasCleanDisk (state S.Store tx.new.conn.now) → TablesAreMade no_schema (state S.Store tx.old.conn.now)
+        → OnOk result (TablesAreMade buckets_schema (state S.Store tx.new.conn.now)) }
     ensures kept { HasCleanDisk (state S.Store tx.new.conn.now) → KeepsCommit (state S.Store tx.old.conn.now) (state S.Store tx.new.conn.now) }
     ensures survives { Survives (state S.Store tx.old.conn.now) (state S.Store tx.new.conn.now) (λ _. ⊥) }
 {
@@ -28,8 +28,8 @@ fn make_buckets<S: Alter>(tx: &mut Transaction<'_, S>) -> Result<usize, Error>
 // Makes the table of held entries, after that of buckets.
 fn make_entries<S: Alter>(tx: &mut Transaction<'_, S>) -> Result<usize, Error>
     ensures same_reference { tx.new.conn.ghost_name ≡ tx.old.conn.ghost_name }
-    ensures made { HasCleanDisk (state S.Store tx.new.conn.now) → IsMade buckets_schema (state S.Store tx.old.conn.now)
-        → OnOk result (IsMade entries_schema (state S.Store tx.new.conn.now)) }
+    ensures made { HasCleanDisk (state S.Store tx.new.conn.now) → TablesAreMade buckets_schema (state S.Store tx.old.conn.now)
+        → OnOk result (TablesAreMade entries_schema (state S.Store tx.new.conn.now)) }
     ensures kept { HasCleanDisk (state S.Store tx.new.conn.now) → KeepsCommit (state S.Store tx.old.conn.now) (state S.Store tx.new.conn.now) }
     ensures survives { Survives (state S.Store tx.old.conn.now) (state S.Store tx.new.conn.now) (λ _. ⊥) }
 {
@@ -43,8 +43,8 @@ fn make_entries<S: Alter>(tx: &mut Transaction<'_, S>) -> Result<usize, Error>
 // Makes the table of local writes, after that of held entries.
 fn make_queue<S: Alter>(tx: &mut Transaction<'_, S>) -> Result<usize, Error>
     ensures same_reference { tx.new.conn.ghost_name ≡ tx.old.conn.ghost_name }
-    ensures made { HasCleanDisk (state S.Store tx.new.conn.now) → IsMade entries_schema (state S.Store tx.old.conn.now)
-        → OnOk result (IsMade queue_schema (state S.Store tx.new.conn.now)) }
+    ensures made { HasCleanDisk (state S.Store tx.new.conn.now) → TablesAreMade entries_schema (state S.Store tx.old.conn.now)
+        → OnOk result (TablesAreMade queue_schema (state S.Store tx.new.conn.now)) }
     ensures kept { HasCleanDisk (state S.Store tx.new.conn.now) → KeepsCommit (state S.Store tx.old.conn.now) (state S.Store tx.new.conn.now) }
     ensures survives { Survives (state S.Store tx.old.conn.now) (state S.Store tx.new.conn.now) (λ _. ⊥) }
 {
@@ -58,8 +58,8 @@ fn make_queue<S: Alter>(tx: &mut Transaction<'_, S>) -> Result<usize, Error>
 // Makes the table of the target, after that of local writes.
 fn make_aim<S: Alter>(tx: &mut Transaction<'_, S>) -> Result<usize, Error>
     ensures same_reference { tx.new.conn.ghost_name ≡ tx.old.conn.ghost_name }
-    ensures made { HasCleanDisk (state S.Store tx.new.conn.now) → IsMade queue_schema (state S.Store tx.old.conn.now)
-        → OnOk result (IsMade aim_schema (state S.Store tx.new.conn.now)) }
+    ensures made { HasCleanDisk (state S.Store tx.new.conn.now) → TablesAreMade queue_schema (state S.Store tx.old.conn.now)
+        → OnOk result (TablesAreMade aim_schema (state S.Store tx.new.conn.now)) }
     ensures kept { HasCleanDisk (state S.Store tx.new.conn.now) → KeepsCommit (state S.Store tx.old.conn.now) (state S.Store tx.new.conn.now) }
     ensures survives { Survives (state S.Store tx.old.conn.now) (state S.Store tx.new.conn.now) (λ _. ⊥) }
 {
@@ -73,9 +73,9 @@ fn make_aim<S: Alter>(tx: &mut Transaction<'_, S>) -> Result<usize, Error>
 // Makes the table of shown rows, after that of the target.
 fn make_shown<S: Alter>(tx: &mut Transaction<'_, S>) -> Result<usize, Error>
     ensures same_reference { tx.new.conn.ghost_name ≡ tx.old.conn.ghost_name }
-    ensures made { HasCleanDisk (state S.Store tx.new.conn.now) → IsMade aim_schema (state S.Store tx.old.conn.now)
-        → OnOk result (IsMade client_schema (state S.Store tx.new.conn.now)) }
-    ensures rows { HasCleanDisk (state S.Store tx.new.conn.now) → IsMade aim_schema (state S.Store tx.old.conn.now)
+    ensures made { HasCleanDisk (state S.Store tx.new.conn.now) → TablesAreMade aim_schema (state S.Store tx.old.conn.now)
+        → OnOk result (TablesAreMade client_schema (state S.Store tx.new.conn.now)) }
+    ensures rows { HasCleanDisk (state S.Store tx.new.conn.now) → TablesAreMade aim_schema (state S.Store tx.old.conn.now)
         → OnOk result (tables_of (state S.Store tx.new.conn.now) ≡ no_rows) }
     ensures kept { HasCleanDisk (state S.Store tx.new.conn.now) → KeepsCommit (state S.Store tx.old.conn.now) (state S.Store tx.new.conn.now) }
     ensures survives { Survives (state S.Store tx.old.conn.now) (state S.Store tx.new.conn.now) (λ _. ⊥) }
@@ -90,9 +90,9 @@ fn make_shown<S: Alter>(tx: &mut Transaction<'_, S>) -> Result<usize, Error>
 // Makes the five tables, one after another.
 fn make_each<S: Alter>(tx: &mut Transaction<'_, S>) -> Result<usize, Error>
     ensures same_reference { tx.new.conn.ghost_name ≡ tx.old.conn.ghost_name }
-    ensures made { HasCleanDisk (state S.Store tx.new.conn.now) → IsMade no_schema (state S.Store tx.old.conn.now)
-        → OnOk result (IsMade client_schema (state S.Store tx.new.conn.now)) }
-    ensures rows { HasCleanDisk (state S.Store tx.new.conn.now) → IsMade no_schema (state S.Store tx.old.conn.now)
+    ensures made { HasCleanDisk (state S.Store tx.new.conn.now) → TablesAreMade no_schema (state S.Store tx.old.conn.now)
+        → OnOk result (TablesAreMade client_schema (state S.Store tx.new.conn.now)) }
+    ensures rows { HasCleanDisk (state S.Store tx.new.conn.now) → TablesAreMade no_schema (state S.Store tx.old.conn.now)
         → OnOk result (tables_of (state S.Store tx.new.conn.now) ≡ no_rows) }
     ensures clean { HasCleanDisk (state S.Store tx.new.conn.now) → HasCleanDisk (state S.Store tx.old.conn.now) }
 {

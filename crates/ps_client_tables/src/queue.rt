@@ -5,7 +5,7 @@ ghost use Rattle.sqlite.specs.Held.{state};
 ghost use Rattle.sqlite.specs.State.{HasCleanDisk, IsUnchanged, KeepsCommit, Survives};
 ghost use Rattle.ps_client_tables.specs.Tables.{put_queued, drop_queued};
 ghost use Rattle.ps_client_tables.specs.Lines.{queued_line};
-ghost use Rattle.ps_client_tables.specs.Steps.{IsClient, IsInside, IsLeft, Turns, tables_of};
+ghost use Rattle.ps_client_tables.specs.Steps.{IsClient, IsInside, IsLeft, EditsTables, tables_of};
 
 use crate::running::run;
 use ps_data::Text;
@@ -18,7 +18,7 @@ pub fn put_queued<S: Alter>(
 ) -> Result<usize, Error>
     ensures same_reference { tx.new.conn.ghost_name ≡ tx.old.conn.ghost_name }
     ensures put { HasCleanDisk (state S.Store tx.new.conn.now) → IsInside (state S.Store tx.old.conn.now)
-        → OnOk result (Turns (put_queued seq change.now) (state S.Store tx.old.conn.now) (state S.Store tx.new.conn.now)) }
+        → OnOk result (EditsTables (put_queued seq change.now) (state S.Store tx.old.conn.now) (state S.Store tx.new.conn.now)) }
     ensures kept { HasCleanDisk (state S.Store tx.new.conn.now) → KeepsCommit (state S.Store tx.old.conn.now) (state S.Store tx.new.conn.now) }
     ensures survives { Survives (state S.Store tx.old.conn.now) (state S.Store tx.new.conn.now) (λ _. ⊥) }
 {
@@ -33,7 +33,7 @@ pub fn put_queued<S: Alter>(
 pub fn drop_queued<S: Alter>(tx: &mut Transaction<'_, S>, seq: i64) -> Result<usize, Error>
     ensures same_reference { tx.new.conn.ghost_name ≡ tx.old.conn.ghost_name }
     ensures dropped { HasCleanDisk (state S.Store tx.new.conn.now) → IsInside (state S.Store tx.old.conn.now)
-        → OnOk result (Turns (drop_queued seq) (state S.Store tx.old.conn.now) (state S.Store tx.new.conn.now)) }
+        → OnOk result (EditsTables (drop_queued seq) (state S.Store tx.old.conn.now) (state S.Store tx.new.conn.now)) }
     ensures kept { HasCleanDisk (state S.Store tx.new.conn.now) → KeepsCommit (state S.Store tx.old.conn.now) (state S.Store tx.new.conn.now) }
     ensures survives { Survives (state S.Store tx.old.conn.now) (state S.Store tx.new.conn.now) (λ _. ⊥) }
 {

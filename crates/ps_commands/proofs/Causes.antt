@@ -26,9 +26,9 @@ use Rattle.ps_due_rows.specs.declared.feedings.Feeding.TheVariants.{Changes}
 use Rattle.ps_due_rows.specs.Dues.{due, own_buckets, rows_after}
 use Rattle.ps_due_rows.specs.FirstCopies.{fed_by}
 use Rattle.ps_due_rows.specs.Loading.{FindsRows, RefusesRows}
-use Rattle.ps_commands.specs.Commands.{Names, Inputs, rows, compact, command_of, Role, for_changes, limit_of, Given}
+use Rattle.ps_commands.specs.Commands.{Names, Inputs, rows, compact, command_of, Role, for_changes, limit_of, GivenFiles}
 use Rattle.ps_commands.specs.Meanings.{Refusal, refused, ◌>>=◌, or_refused, or_refused_as, or_none, prints}
-use Rattle.ps_commands.specs.Causes.{Means, Outside, Kept, Caused, reading, Finds}
+use Rattle.ps_commands.specs.Causes.{CommandMeans, Outside, PrintedNothing, Caused, reading, FindsText}
 use Rattle.ps_commands.proofs.Readings.{ReadsRules, ReadsAsker, ReadsKeyFile}
 use Rattle.ps_commands.proofs.Nexts.{Reaches, means, exceeds, is_next, rows_left, fed_left, reports_left, at_changes, at_reports}
 
@@ -38,16 +38,16 @@ rose_later before mid now le h = omega arith
 -- ---- loading a file of a command
 
 -- the file comes next, and is not loaded; what its bytes are refused for, the command is
-module _ (o : Outside) (mid_held : Option Contents) (mid : ℕ) (words : List (List ℕ)) (role : Role) (name : List ℕ) (same : mid_held ≡ o.held) (risen : o.read_before ≤ mid) (kept : Kept o) (reached : Reaches o.held words role name) where
+module _ (o : Outside) (mid_held : Option Contents) (mid : ℕ) (words : List (List ℕ)) (role : Role) (name : List ℕ) (same : mid_held ≡ o.held) (risen : o.read_before ≤ mid) (kept : PrintedNothing o) (reached : Reaches o.held words role name) where
   here : (bytes : List ℕ) → HoldsWithin mid_held name (limit_of role) bytes → HoldsWithin o.held name (limit_of role) bytes
   here bytes file = subst (λ x. HoldsWithin x name (limit_of role) bytes) same file
 
-  because : (Refuses : Fault → List ℕ → Type 0) → ((fault : Fault) (bytes : List ℕ) → Refuses fault bytes → (given : Given) → reached.left given (Ok bytes) ≡ Err (refused fault))
-      → (fault : Fault) (h : (bytes : List ℕ) × HoldsWithin mid_held name (limit_of role) bytes × Refuses fault bytes) → Kept o × Means o.held words (Err (refused fault))
+  because : (Refuses : Fault → List ℕ → Type 0) → ((fault : Fault) (bytes : List ℕ) → Refuses fault bytes → (given : GivenFiles) → reached.left given (Ok bytes) ≡ Err (refused fault))
+      → (fault : Fault) (h : (bytes : List ℕ) × HoldsWithin mid_held name (limit_of role) bytes × Refuses fault bytes) → PrintedNothing o × CommandMeans o.held words (Err (refused fault))
   because Refuses why fault h = (kept, means o.held words role name reached h.0 (here h.0 h.1) (Err (refused fault)) (why fault h.0 h.2))
 
   pub cause_of : {X : Type 0} (Finds : X → List ℕ → Type 0) (Refuses : Fault → List ℕ → Type 0)
-      → ((fault : Fault) (bytes : List ℕ) → Refuses fault bytes → (given : Given) → reached.left given (Ok bytes) ≡ Err (refused fault))
+      → ((fault : Fault) (bytes : List ℕ) → Refuses fault bytes → (given : GivenFiles) → reached.left given (Ok bytes) ≡ Err (refused fault))
       → (fault : Fault) → Loads {X = X} mid_held name (limit_of role) mid o.read_now Finds Refuses (Err fault) → Caused o words fault
   cause_of Finds Refuses why Usage h = absurd h
   cause_of Finds Refuses why (Rules which line column cause) h = because Refuses why (Rules which line column cause) h
@@ -214,7 +214,7 @@ keys_read held name before now keys h = record { bytes = h.0; file = h.1; read =
 
 module _ (held mid_held : Option Contents) (start mid now : ℕ) (words : List (List ℕ)) (same : mid_held ≡ held) (risen : start ≤ mid) where
   pub reports_found : (names : Inputs) (is : command_of words ≡ Some (compact names)) (rules : RuleSet) → ReadsRules held names.rules rules → (result : Result (Vec ℕ Global) Fault)
-      → Loads mid_held names.changes file_limit mid now (FindsReports rules) (RefusesReports rules) result → Finds held start now words result
+      → Loads mid_held names.changes file_limit mid now (FindsReports rules) (RefusesReports rules) result → FindsText held start now words result
   reports_found names is rules r (Ok text) h =
       means held words for_changes names.changes (at_reports held words names is rules r) h.0 (subst (λ x. HoldsWithin x names.changes file_limit h.0) same h.1) (Ok (prints text.items)) (λ given.
       ap (λ (x : Result (List Transaction) Fault). reports_left rules (or_refused x)) h.2.read ∙ ap (λ (t : List ℕ). Ok (prints t)) (sym h.2.is))
@@ -223,7 +223,7 @@ module _ (held mid_held : Option Contents) (start mid now : ℕ) (words : List (
       (λ fault bytes refuses given. reports_refused (λ transactions. reports_left rules (Ok transactions)) rules fault bytes refuses) fault h
 
   pub rows_found : (names : Names) (is : command_of words ≡ Some (rows names)) (rules : RuleSet) → ReadsRules held names.rules rules → (asker : Asker) → ReadsAsker held names.claims asker
-      → (result : Result (Vec ℕ Global) Fault) → Loads mid_held names.changes file_limit mid now (FindsRows names.feeding rules asker) (RefusesRows names.feeding rules asker) result → Finds held start now words result
+      → (result : Result (Vec ℕ Global) Fault) → Loads mid_held names.changes file_limit mid now (FindsRows names.feeding rules asker) (RefusesRows names.feeding rules asker) result → FindsText held start now words result
   rows_found names is rules r asker a (Ok text) h =
       means held words for_changes names.changes (at_changes held words names is rules r asker a) h.0 (subst (λ x. HoldsWithin x names.changes file_limit h.0) same h.1) (Ok (prints text.items)) (λ given.
       ap (λ (x : Result (List Transaction) Fault). fed_left rules asker (or_refused x)) h.2.read

@@ -9,9 +9,9 @@ use Rattle.ps_files.specs.declared.faults.ScriptCause.{ScriptCause}
 use Rattle.ps_files.specs.FaultTexts.{status_of}
 use Rattle.ps_files.specs.Loading.{unread_name, JoinsThese}
 use Rattle.ps_audit.specs.declared.verdicts.Verdict.TheVariants.{Yes, No}
-use Rattle.ps_commands.specs.Commands.{Command, check, rows, replay, compact, token, generate, generate_lines, audit, command_of, NamedFile, files_of, Given, Agree, BeginsWithin}
+use Rattle.ps_commands.specs.Commands.{Command, check, rows, replay, compact, token, generate, generate_lines, audit, command_of, NamedFile, files_of, GivenFiles, Agree, BeginsWithin}
 use Rattle.ps_commands.specs.Meanings.{Refusal, missing, refused, Meant, prints, plays, judges, meaning}
-use Rattle.ps_commands.specs.Causes.{Means, Refuses, IsNext, Says, Prints, PrintsFront, PrintsSome, StopsScript, PrintsNo, ExceedsLimit, Outside, Kept, Caused, IsAnswer, AreTold, IsExact}
+use Rattle.ps_commands.specs.Causes.{CommandMeans, Refuses, IsNextFile, SaysAll, Prints, PrintsFront, PrintsSome, StopsScript, PrintsNo, ExceedsLimit, Outside, PrintedNothing, Caused, IsAnswer, FilesAreTold, IsExact}
 
 same_value : {A : Type 0} (o : Option A) (a b : A) → o ≡ Some a → o ≡ Some b → a ≡ b
 same_value o a b h g = let e : Some a ≡ Some b = sym h ∙ g in cc
@@ -22,7 +22,7 @@ not_none : (file : NamedFile) (files : List NamedFile) → file ∷ files ≡ []
 not_none file files h = absurd (cc)
 
 -- a command that reads no file means the same over any
-alone : (command : Command) (given other : Given) → files_of command ≡ [] → meaning command given ≡ meaning command other
+alone : (command : Command) (given other : GivenFiles) → files_of command ≡ [] → meaning command given ≡ meaning command other
 alone (check name) given other none = absurd (not_none _ _ none)
 alone (rows names) given other none = absurd (not_none _ _ none)
 alone (replay names) given other none = absurd (not_none _ _ none)
@@ -32,12 +32,12 @@ alone (generate count) given other none = refl
 alone (generate_lines count) given other none = refl
 alone (audit names) given other none = absurd (not_none _ _ none)
 
-same_meaning : (held : Option Contents) (command : Command) (given other : Given) → AreTold held command → Agree held command given → Agree held command other → meaning command given ≡ meaning command other
+same_meaning : (held : Option Contents) (command : Command) (given other : GivenFiles) → FilesAreTold held command → Agree held command given → Agree held command other → meaning command given ≡ meaning command other
 same_meaning None command given other none given_told other_told = alone command given other none
 same_meaning (Some held) command given other none given_told other_told = ap (meaning command) (given_told ∙ sym other_told)
 
 -- what is meant is what the words' command means over each that agrees
-meant_so : (held : Option Contents) (words : List (List ℕ)) (r : Result Meant Refusal) (m : Means held words r) (command : Command) (given : Given) → command_of words ≡ Some command → AreTold held command
+meant_so : (held : Option Contents) (words : List (List ℕ)) (r : Result Meant Refusal) (m : CommandMeans held words r) (command : Command) (given : GivenFiles) → command_of words ≡ Some command → FilesAreTold held command
     → Agree held command given → meaning command given ≡ r
 meant_so held words r m command given is told_all told_given =
     let e : command ≡ m.command = same_value (command_of words) command m.command is m.is in
@@ -52,11 +52,11 @@ out_of_memory (Ok (judges recorded)) old new status h kept = inr (h, kept)
 out_of_memory (Err (missing role)) old new status h kept = (h, kept)
 out_of_memory (Err (refused fault)) old new status h kept = inr (h, kept)
 
-by_meaning : (held : Option Contents) (words : List (List ℕ)) (old new : Option (List ℕ)) (status : ℕ) (r : Result Meant Refusal) → Means held words r → IsAnswer r old new status → IsExact held words old new status
+by_meaning : (held : Option Contents) (words : List (List ℕ)) (old new : Option (List ℕ)) (status : ℕ) (r : Result Meant Refusal) → CommandMeans held words r → IsAnswer r old new status → IsExact held words old new status
 by_meaning held words old new status r m answer = λ command given is told_all told_given.
     subst (λ x. IsAnswer x old new status) (sym (meant_so held words r m command given is told_all told_given)) answer
 
-all_said : (meant : Meant) (text : List ℕ) (old new : Option (List ℕ)) → Says meant text → Gains old new text → IsAnswer (Ok meant) old new 0
+all_said : (meant : Meant) (text : List ℕ) (old new : Option (List ℕ)) → SaysAll meant text → Gains old new text → IsAnswer (Ok meant) old new 0
 all_said (prints text) printed old new says gains = inl (refl, subst (Gains old new) says gains)
 all_said (plays game) printed old new says gains = inl (refl, printed, says, gains)
 all_said (judges recorded) printed old new says gains = inl (Yes says.0, says.1, refl, subst (Gains old new) says.2 gains)
@@ -72,10 +72,10 @@ module _ (held : Option Contents) (words : List (List ℕ)) (read_before read_no
   abbrev seen_so : Outside
   seen_so = record { held = held; read_before = read_before; read_now = read_now; taken_before = old; taken_now = new; write_before = write_before; write_now = write_now }
 
-  by_fault : (fault : Fault) → Kept seen_so × Refuses held words fault → status ≡ status_of fault → IsExact held words old new status
+  by_fault : (fault : Fault) → PrintedNothing seen_so × Refuses held words fault → status ≡ status_of fault → IsExact held words old new status
   by_fault fault c s = by_meaning held words old new status (Err (refused fault)) c.1 (inl (s, c.0))
 
-  by_memory : Kept seen_so ⊎ PrintsSome held words old new → status ≡ 8 → IsExact held words old new status
+  by_memory : PrintedNothing seen_so ⊎ PrintsSome held words old new → status ≡ 8 → IsExact held words old new status
   by_memory (inl kept) s = λ command given is told_all told_given. out_of_memory (meaning command given) old new status s kept
   by_memory (inr p) s = by_meaning held words old new status (Ok (plays p.game)) p.means (inr (inr (s, inr (p.text, p.gives, p.printed))))
 
@@ -125,7 +125,7 @@ claims_by o words status (Script line why) c s h = absurd (omega (arith, s, h))
 claims_by o words status Memory c s h = absurd (omega (arith, s, h))
 
 pub unread_by : (o : Outside) (words : List (List ℕ)) (before after : Option (List (List ℕ))) (status : ℕ) (fault : Fault) → Caused o words fault → JoinsThese before after (unread_name fault)
-    → status ≡ status_of fault → status ≡ 6 → Rose o.read_before o.read_now × (name : List ℕ) × IsNext o.held words name × Joins before after name
+    → status ≡ status_of fault → status ≡ 6 → Rose o.read_before o.read_now × (name : List ℕ) × IsNextFile o.held words name × Joins before after name
 unread_by o words before after status Usage c j s h = absurd (omega (arith, s, h))
 unread_by o words before after status (Rules which line column why) c j s h = absurd (omega (arith, s, h))
 unread_by o words before after status (Change line why) c j s h = absurd (omega (arith, s, h))
@@ -198,7 +198,7 @@ script_by o words status Memory c s h = absurd (omega (arith, s, h))
 
 -- ---- what was printed
 
-pub early_by : (o : Outside) (words : List (List ℕ)) (status : ℕ) (fault : Fault) → Caused o words fault → status ≡ status_of fault → status ≡ 8 → (Kept o) ⊎ PrintsSome o.held words o.taken_before o.taken_now
+pub early_by : (o : Outside) (words : List (List ℕ)) (status : ℕ) (fault : Fault) → Caused o words fault → status ≡ status_of fault → status ≡ 8 → (PrintedNothing o) ⊎ PrintsSome o.held words o.taken_before o.taken_now
 early_by o words status Usage c s h = absurd (omega (arith, s, h))
 early_by o words status (Rules which line column why) c s h = absurd (omega (arith, s, h))
 early_by o words status (Change line why) c s h = absurd (omega (arith, s, h))
@@ -226,7 +226,7 @@ first_by o words status CannotWrite c s h = absurd (omega (arith, s, h))
 first_by o words status (Script place cause) c s h = absurd (omega (arith, s, h))
 first_by o words status Memory c s h = c.0
 
-pub kept_by : (o : Outside) (words : List (List ℕ)) (status : ℕ) (fault : Fault) → Caused o words fault → status ≡ status_of fault → ¬ (status ≡ 7) → ¬ (status ≡ 8) → ¬ (status ≡ 9) → Kept o
+pub kept_by : (o : Outside) (words : List (List ℕ)) (status : ℕ) (fault : Fault) → Caused o words fault → status ≡ status_of fault → ¬ (status ≡ 7) → ¬ (status ≡ 8) → ¬ (status ≡ 9) → PrintedNothing o
 kept_by o words status Usage c s seven eight nine = c.0
 kept_by o words status (Rules which line column why) c s seven eight nine = c.0
 kept_by o words status (Change line why) c s seven eight nine = c.0

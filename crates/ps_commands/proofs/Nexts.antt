@@ -7,7 +7,7 @@ use Rattle.ps_definitions.specs.RuleSets.{RuleSet}
 use Rattle.ps_queries.specs.declared.askers.Asker.{Asker}
 use Rattle.ps_claims.specs.Claims.{asker_of_claims}
 use Rattle.ps_token.specs.KeyFiles.{keys_of_file}
-use Rattle.ps_token.specs.KeyLists.{key_of}
+use Rattle.ps_token.specs.KeyLists.{key_of_kid}
 use Rattle.ps_token.specs.declared.key_lists.Key.{Key}
 use Rattle.ps_files.specs.declared.faults.Fault.TheVariants.{Claims, Keys, TooLong}
 use Rattle.ps_files.specs.ChangeFiles.{all_transactions_of, rising_transactions_of}
@@ -21,9 +21,9 @@ use Rattle.ps_due_rows.specs.declared.feedings.Feeding.TheVariants.{Changes}
 use Rattle.ps_due_rows.specs.Dues.{rows_after}
 use Rattle.ps_due_rows.specs.FirstCopies.{fed_by}
 use Rattle.ps_commands.specs.Auditing.{Recorded}
-use Rattle.ps_commands.specs.Commands.{Names, Inputs, Scripting, Signing, Recording, Command, check, rows, replay, compact, token, audit, command_of, Role, for_rules, for_next, for_keys, for_claims, for_changes, for_script, for_stream, limit_of, file, next_file, files_of, name_in, Given, in_role, without, FirstFits}
+use Rattle.ps_commands.specs.Commands.{Names, Inputs, Scripting, Signing, Recording, Command, check, rows, replay, compact, token, audit, command_of, Role, for_rules, for_next, for_keys, for_claims, for_changes, for_script, for_stream, limit_of, file, next_file, files_of, name_in, GivenFiles, in_role, without, FirstFits}
 use Rattle.ps_commands.specs.Meanings.{Refusal, missing, refused, ◌>>=◌, or_refused, or_refused_as, or_none, or_wide, within_limit, rules_in, fed_in, next_if, asker_in, all_in, rising_in, Meant, prints, plays, judges, token_text, meaning}
-use Rattle.ps_commands.specs.Causes.{Means, IsNext}
+use Rattle.ps_commands.specs.Causes.{CommandMeans, IsNextFile}
 use Rattle.ps_commands.proofs.Readings.{completed, agree, given_in, as_long, too_long, ReadsRules, ReadsAsker, ReadsKeyFile, ReadsTransactions, ReadsRising, ReadsNext, next_bytes, rules_are, asker_is, keys_are, all_are, rising_are, next_is}
 
 -- the words are a command, and its file in that role comes next: what it means is what is left of it once that file is looked at
@@ -31,10 +31,10 @@ pub record Reaches (held : Option Contents) (words : List (List ℕ)) (role : Ro
   pub command : Command
   pub is : command_of words ≡ Some command
   pub named : name_in role (files_of command) ≡ Some name
-  pub own : Option (List ℕ) → Given
+  pub own : Option (List ℕ) → GivenFiles
   pub owns : (found : Option (List ℕ)) → in_role role (own found) ≡ found
-  pub left : Given → Result (List ℕ) Refusal → Result Meant Refusal
-  pub strict : (given : Given) (refusal : Refusal) → left given (Err refusal) ≡ Err refusal
+  pub left : GivenFiles → Result (List ℕ) Refusal → Result Meant Refusal
+  pub strict : (given : GivenFiles) (refusal : Refusal) → left given (Err refusal) ≡ Err refusal
   pub past : (found : Option (List ℕ)) → meaning command (completed held command (own found))
       ≡ left (completed held command (own found)) (within_limit role (in_role role (completed held command (own found))))
   pub misses : meaning command (without role (completed held command (own None))) ≡ Err (missing role)
@@ -42,7 +42,7 @@ pub record Reaches (held : Option Contents) (words : List (List ℕ)) (role : Ro
 
 module _ (held : Option Contents) (words : List (List ℕ)) (role : Role) (name : List ℕ) (r : Reaches held words role name) where
   -- the file holds those bytes
-  pub means : (bytes : List ℕ) → HoldsWithin held name (limit_of role) bytes → (meant : Result Meant Refusal) → ((given : Given) → r.left given (Ok bytes) ≡ meant) → Means held words meant
+  pub means : (bytes : List ℕ) → HoldsWithin held name (limit_of role) bytes → (meant : Result Meant Refusal) → ((given : GivenFiles) → r.left given (Ok bytes) ≡ meant) → CommandMeans held words meant
   means bytes file meant goes_on =
       let given = completed held r.command (r.own (Some bytes)) in
       record {
@@ -54,7 +54,7 @@ module _ (held : Option Contents) (words : List (List ℕ)) (role : Role) (name 
       }
 
   -- it is longer than its limit
-  pub exceeds : (seen : ℕ) → limit_of role < seen → HasLength held name seen → Means held words (Err (refused (TooLong seen)))
+  pub exceeds : (seen : ℕ) → limit_of role < seen → HasLength held name seen → CommandMeans held words (Err (refused (TooLong seen)))
   exceeds seen more file =
       let own = r.own (Some (as_long seen)) in
       let given = completed held r.command own in
@@ -66,7 +66,7 @@ module _ (held : Option Contents) (words : List (List ℕ)) (role : Role) (name 
         meant = r.past (Some (as_long seen)) ∙ ap (r.left given) (too_long held r.command own role name seen r.named (r.owns (Some (as_long seen))) more file) ∙ r.strict given (refused (TooLong seen));
       }
 
-  pub is_next : IsNext held words name
+  pub is_next : IsNextFile held words name
   is_next = record {
     command = r.command;
     is = r.is;
@@ -79,10 +79,10 @@ module _ (held : Option Contents) (words : List (List ℕ)) (role : Role) (name 
 
 -- ---- what is left of a command
 
-abbrev given : Option (List ℕ) → Option (List ℕ) → Option (List ℕ) → Option (List ℕ) → Option (List ℕ) → Option (List ℕ) → Option (List ℕ) → Given
+abbrev given : Option (List ℕ) → Option (List ℕ) → Option (List ℕ) → Option (List ℕ) → Option (List ℕ) → Option (List ℕ) → Option (List ℕ) → GivenFiles
 given rules next keys claims changes script stream = record { rules = rules; next = next; keys = keys; claims = claims; changes = changes; script = script; stream = stream }
 
-abbrev pub none_given : Given
+abbrev pub none_given : GivenFiles
 none_given = given None None None None None None None
 
 abbrev pub check_left : Result RuleSet Refusal → Result Meant Refusal
@@ -94,37 +94,37 @@ rows_left r = r >>= λ shown. Ok (prints (rows_text shown))
 abbrev pub fed_left : RuleSet → Asker → Result (List Transaction) Refusal → Result Meant Refusal
 fed_left rules asker r = r >>= λ transactions. rows_left (or_refused (rows_after rules asker transactions))
 
-abbrev pub claims_left : Names → RuleSet → Given → Result Asker Refusal → Result Meant Refusal
+abbrev pub claims_left : Names → RuleSet → GivenFiles → Result Asker Refusal → Result Meant Refusal
 claims_left names rules given r = r >>= λ asker. fed_left rules asker (fed_in names.feeding rules given.changes)
 
-abbrev pub rules_left : Names → Given → Result RuleSet Refusal → Result Meant Refusal
+abbrev pub rules_left : Names → GivenFiles → Result RuleSet Refusal → Result Meant Refusal
 rules_left names given r = r >>= λ rules. claims_left names rules given (asker_in given.claims)
 
 abbrev pub script_left : RuleSet → Option RuleSet → List Transaction → Result (List ℕ) Refusal → Result Meant Refusal
 script_left rules next transactions r = r >>= λ script. Ok (plays (record { rules = rules; next = next; transactions = transactions; script = script }))
 
-abbrev pub all_left : RuleSet → Option RuleSet → Given → Result (List Transaction) Refusal → Result Meant Refusal
+abbrev pub all_left : RuleSet → Option RuleSet → GivenFiles → Result (List Transaction) Refusal → Result Meant Refusal
 all_left rules next given r = r >>= λ transactions. script_left rules next transactions (within_limit for_script given.script)
 
-abbrev pub next_left : RuleSet → Given → Result (Option RuleSet) Refusal → Result Meant Refusal
+abbrev pub next_left : RuleSet → GivenFiles → Result (Option RuleSet) Refusal → Result Meant Refusal
 next_left rules given r = r >>= λ next. all_left rules next given (all_in given.changes)
 
-abbrev pub replay_left : Scripting → Given → Result RuleSet Refusal → Result Meant Refusal
+abbrev pub replay_left : Scripting → GivenFiles → Result RuleSet Refusal → Result Meant Refusal
 replay_left names given r = r >>= λ rules. next_left rules given (next_if names.next given.next)
 
 abbrev pub reports_left : RuleSet → Result (List Transaction) Refusal → Result Meant Refusal
 reports_left rules r = r >>= λ transactions. Ok (prints (compact_text rules transactions))
 
-abbrev pub compact_left : Given → Result RuleSet Refusal → Result Meant Refusal
+abbrev pub compact_left : GivenFiles → Result RuleSet Refusal → Result Meant Refusal
 compact_left given r = r >>= λ rules. reports_left rules (fed_in Changes rules given.changes)
 
 abbrev pub key_left : Signing → Asker → Result Key Refusal → Result Meant Refusal
 key_left names asker r = r >>= λ key. Ok (prints (token_text key names.kid asker))
 
 abbrev pub signing_left : Signing → List Key → Result Asker Refusal → Result Meant Refusal
-signing_left names keys r = r >>= λ asker. key_left names asker (or_none Keys (key_of names.kid keys))
+signing_left names keys r = r >>= λ asker. key_left names asker (or_none Keys (key_of_kid names.kid keys))
 
-abbrev pub token_left : Signing → Given → Result (List Key) Refusal → Result Meant Refusal
+abbrev pub token_left : Signing → GivenFiles → Result (List Key) Refusal → Result Meant Refusal
 token_left names given r = r >>= λ keys. signing_left names keys (asker_in given.claims)
 
 abbrev pub recorded_of : RuleSet → Asker → List Transaction → List ℕ → Recorded
@@ -133,13 +133,13 @@ recorded_of rules asker transactions stream = record { rules = rules; transactio
 abbrev pub judged_left : RuleSet → Asker → List Transaction → Result (List ℕ) Refusal → Result Meant Refusal
 judged_left rules asker transactions r = r >>= λ stream. or_wide (has_wide rules.definitions transactions) (judges (recorded_of rules asker transactions stream))
 
-abbrev pub rising_left : RuleSet → Asker → Given → Result (List Transaction) Refusal → Result Meant Refusal
+abbrev pub rising_left : RuleSet → Asker → GivenFiles → Result (List Transaction) Refusal → Result Meant Refusal
 rising_left rules asker given r = r >>= λ transactions. judged_left rules asker transactions (within_limit for_stream given.stream)
 
-abbrev pub auditor_left : RuleSet → Given → Result Asker Refusal → Result Meant Refusal
+abbrev pub auditor_left : RuleSet → GivenFiles → Result Asker Refusal → Result Meant Refusal
 auditor_left rules given r = r >>= λ asker. rising_left rules asker given (rising_in given.changes)
 
-abbrev pub audit_left : Given → Result RuleSet Refusal → Result Meant Refusal
+abbrev pub audit_left : GivenFiles → Result RuleSet Refusal → Result Meant Refusal
 audit_left given r = r >>= λ rules. auditor_left rules given (asker_in given.claims)
 
 -- ---- names
@@ -193,7 +193,7 @@ module _ (held : Option Contents) (words : List (List ℕ)) where
     module _ (rules : RuleSet) (r : ReadsRules held names.rules rules) where
       abbrev pub at_claims : Reaches held words for_claims names.claims
       at_claims =
-          let own : Option (List ℕ) → Given = λ found. given (Some r.bytes) None None found None None None in
+          let own : Option (List ℕ) → GivenFiles = λ found. given (Some r.bytes) None None found None None None in
           record {
             command = rows names;
             is = is;
@@ -210,7 +210,7 @@ module _ (held : Option Contents) (words : List (List ℕ)) where
       module _ (asker : Asker) (a : ReadsAsker held names.claims asker) where
         abbrev pub at_changes : Reaches held words for_changes names.changes
         at_changes =
-            let own : Option (List ℕ) → Given = λ found. given (Some r.bytes) None None (Some a.bytes) found None None in
+            let own : Option (List ℕ) → GivenFiles = λ found. given (Some r.bytes) None None (Some a.bytes) found None None in
             record {
               command = rows names;
               is = is;
@@ -247,7 +247,7 @@ module _ (held : Option Contents) (words : List (List ℕ)) where
     module _ (rules : RuleSet) (r : ReadsRules held names.rules rules) where
       abbrev pub at_next : (name : List ℕ) → names.next ≡ Some name → Reaches held words for_next name
       at_next name is_named =
-          let own : Option (List ℕ) → Given = λ found. given (Some r.bytes) found None None None None None in
+          let own : Option (List ℕ) → GivenFiles = λ found. given (Some r.bytes) found None None None None None in
           record {
             command = replay names;
             is = is;
@@ -266,11 +266,11 @@ module _ (held : Option Contents) (words : List (List ℕ)) where
           }
 
       module _ (next : Option RuleSet) (n : ReadsNext held names.next next) where
-        abbrev early : Option (List ℕ) → Option (List ℕ) → Given
+        abbrev early : Option (List ℕ) → Option (List ℕ) → GivenFiles
         early changes script = given (Some r.bytes) (next_bytes held names.next next n) None None changes script None
 
         -- the rules and the next ones are read
-        pub past_next : (own g : Given) → own.rules ≡ Some r.bytes → own.next ≡ next_bytes held names.next next n → g.rules ≡ (completed held (replay names) own).rules
+        pub past_next : (own g : GivenFiles) → own.rules ≡ Some r.bytes → own.next ≡ next_bytes held names.next next n → g.rules ≡ (completed held (replay names) own).rules
             → g.next ≡ (completed held (replay names) own).next → meaning (replay names) g ≡ all_left rules next g (all_in g.changes)
         past_next own g rules_own next_own rules_same next_same =
             ap (λ (x : Option (List ℕ)). replay_left names g (rules_in x)) rules_same
@@ -280,7 +280,7 @@ module _ (held : Option Contents) (words : List (List ℕ)) where
 
         abbrev pub at_fed : Reaches held words for_changes names.changes
         at_fed =
-            let own : Option (List ℕ) → Given = λ found. early found None in
+            let own : Option (List ℕ) → GivenFiles = λ found. early found None in
             record {
               command = replay names;
               is = is;
@@ -297,7 +297,7 @@ module _ (held : Option Contents) (words : List (List ℕ)) where
         module _ (transactions : List Transaction) (t : ReadsTransactions held names.changes transactions) where
           abbrev pub at_script : Reaches held words for_script names.script
           at_script =
-              let own : Option (List ℕ) → Given = λ found. early (Some t.bytes) found in
+              let own : Option (List ℕ) → GivenFiles = λ found. early (Some t.bytes) found in
               record {
                 command = replay names;
                 is = is;
@@ -335,7 +335,7 @@ module _ (held : Option Contents) (words : List (List ℕ)) where
 
     abbrev pub at_reports : (rules : RuleSet) → ReadsRules held names.rules rules → Reaches held words for_changes names.changes
     at_reports rules r =
-        let own : Option (List ℕ) → Given = λ found. given (Some r.bytes) None None None found None None in
+        let own : Option (List ℕ) → GivenFiles = λ found. given (Some r.bytes) None None None found None None in
         record {
           command = compact names;
           is = is;
@@ -367,7 +367,7 @@ module _ (held : Option Contents) (words : List (List ℕ)) where
 
     abbrev pub at_signed : (keys : List Key) → ReadsKeyFile held names.keys keys → Reaches held words for_claims names.claims
     at_signed keys k =
-        let own : Option (List ℕ) → Given = λ found. given None None (Some k.bytes) found None None None in
+        let own : Option (List ℕ) → GivenFiles = λ found. given None None (Some k.bytes) found None None None in
         record {
           command = token names;
           is = is;
@@ -400,7 +400,7 @@ module _ (held : Option Contents) (words : List (List ℕ)) where
     module _ (rules : RuleSet) (r : ReadsRules held names.rules rules) where
       abbrev pub at_auditor : Reaches held words for_claims names.claims
       at_auditor =
-          let own : Option (List ℕ) → Given = λ found. given (Some r.bytes) None None found None None None in
+          let own : Option (List ℕ) → GivenFiles = λ found. given (Some r.bytes) None None found None None None in
           record {
             command = audit names;
             is = is;
@@ -416,7 +416,7 @@ module _ (held : Option Contents) (words : List (List ℕ)) where
 
       module _ (asker : Asker) (a : ReadsAsker held names.claims asker) where
         -- the rules and the claims are read
-        pub past_auditor : (own g : Given) → own.rules ≡ Some r.bytes → own.claims ≡ Some a.bytes → g.rules ≡ (completed held (audit names) own).rules
+        pub past_auditor : (own g : GivenFiles) → own.rules ≡ Some r.bytes → own.claims ≡ Some a.bytes → g.rules ≡ (completed held (audit names) own).rules
             → g.claims ≡ (completed held (audit names) own).claims → meaning (audit names) g ≡ rising_left rules asker g (rising_in g.changes)
         past_auditor own g rules_own claims_own rules_same claims_same =
             ap (λ (x : Option (List ℕ)). audit_left g (rules_in x)) rules_same
@@ -426,7 +426,7 @@ module _ (held : Option Contents) (words : List (List ℕ)) where
 
         abbrev pub at_source : Reaches held words for_changes names.changes
         at_source =
-            let own : Option (List ℕ) → Given = λ found. given (Some r.bytes) None None (Some a.bytes) found None None in
+            let own : Option (List ℕ) → GivenFiles = λ found. given (Some r.bytes) None None (Some a.bytes) found None None in
             record {
               command = audit names;
               is = is;
@@ -443,7 +443,7 @@ module _ (held : Option Contents) (words : List (List ℕ)) where
         module _ (transactions : List Transaction) (t : ReadsRising held names.changes transactions) where
           abbrev pub at_stream : Reaches held words for_stream names.stream
           at_stream =
-              let own : Option (List ℕ) → Given = λ found. given (Some r.bytes) None None (Some a.bytes) (Some t.bytes) None found in
+              let own : Option (List ℕ) → GivenFiles = λ found. given (Some r.bytes) None None (Some a.bytes) (Some t.bytes) None found in
               record {
                 command = audit names;
                 is = is;

@@ -15,17 +15,17 @@ use Rattle.ps_files.specs.declared.faults.Fault.TheVariants.{Claims, Keys, TooLo
 use Rattle.ps_files.specs.ChangeFiles.{all_transactions_of, rising_transactions_of}
 use Rattle.ps_files.specs.HeldFiles.{rules_limit, file_limit, HoldsWithin}
 use Rattle.ps_files.specs.RulesFaults.{as_next, rules_of_file}
-use Rattle.ps_commands.specs.Commands.{Command, Role, for_rules, for_next, for_keys, for_claims, for_changes, for_script, for_stream, limit_of, files_of, name_in, Given, in_role, content_in, told, Agree}
+use Rattle.ps_commands.specs.Commands.{Command, Role, for_rules, for_next, for_keys, for_claims, for_changes, for_script, for_stream, limit_of, files_of, name_in, GivenFiles, in_role, content_in, told, Agree}
 use Rattle.ps_commands.specs.Meanings.{Refusal, refused, ◌>>=◌, or_refused, or_refused_as, or_none, within_limit, rules_in, next_if, keys_in, asker_in, all_in, rising_in}
 
 -- ---- what is given
 
 -- what contents tell of the command's files, or else this
-abbrev pub completed : Option Contents → Command → Given → Given
+abbrev pub completed : Option Contents → Command → GivenFiles → GivenFiles
 completed None command own = own
 completed (Some held) command own = told held command
 
-pub agree : (held : Option Contents) (command : Command) (own : Given) → Agree held command (completed held command own)
+pub agree : (held : Option Contents) (command : Command) (own : GivenFiles) → Agree held command (completed held command own)
 agree None command own = tt
 agree (Some held) command own = refl
 
@@ -52,7 +52,7 @@ exceeds role bytes seen more count =
     ∙ ap (λ n. Err (refused (TooLong n))) (sym count)
 
 -- a file of the command holds those bytes
-pub given_in : (held : Option Contents) (command : Command) (own : Given) (role : Role) (name bytes : List ℕ) → name_in role (files_of command) ≡ Some name → in_role role own ≡ Some bytes
+pub given_in : (held : Option Contents) (command : Command) (own : GivenFiles) (role : Role) (name bytes : List ℕ) → name_in role (files_of command) ≡ Some name → in_role role own ≡ Some bytes
     → HoldsWithin held name (limit_of role) bytes → within_limit role (in_role role (completed held command own)) ≡ Ok bytes
 given_in None command own role name bytes named is file = ap (within_limit role) is ∙ fits role bytes file.within
 given_in (Some held) command own role name bytes named is file =
@@ -63,7 +63,7 @@ abbrev pub as_long : ℕ → List ℕ
 as_long seen = replicate seen 0
 
 -- a file of the command has so many bytes, more than its limit
-pub too_long : (held : Option Contents) (command : Command) (own : Given) (role : Role) (name : List ℕ) (seen : ℕ) → name_in role (files_of command) ≡ Some name → in_role role own ≡ Some (as_long seen)
+pub too_long : (held : Option Contents) (command : Command) (own : GivenFiles) (role : Role) (name : List ℕ) (seen : ℕ) → name_in role (files_of command) ≡ Some name → in_role role own ≡ Some (as_long seen)
     → limit_of role < seen → HasLength held name seen → within_limit role (in_role role (completed held command own)) ≡ Err (refused (TooLong seen))
 too_long None command own role name seen named is more file = ap (within_limit role) is ∙ exceeds role (as_long seen) seen more (sym (length-replicate seen 0))
 too_long (Some held) command own role name seen named is more file =
@@ -110,7 +110,7 @@ next_bytes held None (Some rules) r = absurd r
 next_bytes held (Some name) None r = absurd r
 next_bytes held (Some name) (Some rules) r = Some r.bytes
 
-module _ (held : Option Contents) (command : Command) (own : Given) where
+module _ (held : Option Contents) (command : Command) (own : GivenFiles) where
   pub rules_are : (name : List ℕ) (rules : RuleSet) (r : ReadsRules held name rules) → name_in for_rules (files_of command) ≡ Some name → own.rules ≡ Some r.bytes
       → rules_in (completed held command own).rules ≡ Ok rules
   rules_are name rules r named is =

@@ -14,9 +14,9 @@ use Rattle.ps_files.specs.declared.faults.ScriptCause.TheVariants.{BadEvent, Unk
 use Rattle.ps_files.specs.HeldFiles.{file_limit, rules_limit, HoldsWithin}
 use Rattle.ps_files.specs.Loading.{Loads, IsContent, IsNextFault, RefusesNothing}
 use Rattle.ps_files.specs.ReadingAll.{FindsTransactions, IsTransactionsFault}
-use Rattle.ps_commands.specs.Commands.{Scripting, replay, command_of, name_of, for_next, for_changes, for_script, BeginsWithin}
+use Rattle.ps_commands.specs.Commands.{Scripting, replay, command_of, file_name, for_next, for_changes, for_script, BeginsWithin}
 use Rattle.ps_commands.specs.Meanings.{plays}
-use Rattle.ps_commands.specs.Causes.{Means, Outside, Kept, Caused, Outcome}
+use Rattle.ps_commands.specs.Causes.{CommandMeans, Outside, PrintedNothing, Caused, Outcome}
 use Rattle.ps_commands.specs.Replaying.{Game, fixed_of, start_of, script_fault, PlaysOut, stopped_by, FindsNext, LoadsNext}
 use Rattle.ps_commands.proofs.Readings.{ReadsRules, ReadsNext, ReadsTransactions}
 use Rattle.ps_commands.proofs.Nexts.{means, next_left, all_left, at_next, at_fed, at_script}
@@ -59,7 +59,7 @@ stops game number scripts.Memory out s = stopped_early game number scripts.Memor
 
 module _ (o : Outside) (words : List (List ℕ)) (names : Scripting) (is : command_of words ≡ Some (replay names)) (rules : RuleSet) (r : ReadsRules o.held names.rules rules) where
   -- the file of the next rules
-  pub cause_of_next : Kept o → (file : Option (Bor (List ℕ))) → names.next ≡ name_of file → (mid_held : Option Contents) (mid : ℕ) (fault : Fault)
+  pub cause_of_next : PrintedNothing o → (file : Option (Bor (List ℕ))) → names.next ≡ file_name file → (mid_held : Option Contents) (mid : ℕ) (fault : Fault)
       → mid_held ≡ o.held → o.read_before ≤ mid → LoadsNext mid_held file mid o.read_now (Err fault) → Caused o words fault
   cause_of_next kept None own mid_held mid fault same risen h = absurd h
   cause_of_next kept (Some file) own mid_held mid fault same risen h =
@@ -67,14 +67,14 @@ module _ (o : Outside) (words : List (List ℕ)) (names : Scripting) (is : comma
       (λ fault bytes refuses given. ap (next_left rules given) (next_refused {A = Option RuleSet} (λ next. Ok (Some next)) fault bytes refuses)) fault h
 
   module _ (next : Option RuleSet) (n : ReadsNext o.held names.next next) where
-    pub cause_of_fed : Kept o → (mid_held : Option Contents) (mid : ℕ) (fault : Fault) → mid_held ≡ o.held → o.read_before ≤ mid
+    pub cause_of_fed : PrintedNothing o → (mid_held : Option Contents) (mid : ℕ) (fault : Fault) → mid_held ≡ o.held → o.read_before ≤ mid
         → Loads {X = Vec Transaction Global} mid_held names.changes file_limit mid o.read_now FindsTransactions IsTransactionsFault (Err fault) → Caused o words fault
     cause_of_fed kept mid_held mid fault same risen h =
         cause_of o mid_held mid words for_changes names.changes same risen kept (at_fed o.held words names is rules r next n) FindsTransactions IsTransactionsFault
         (λ fault bytes refuses given. all_refused (λ transactions. all_left rules next given (Ok transactions)) fault bytes refuses) fault h
 
     module _ (transactions : List Transaction) (t : ReadsTransactions o.held names.changes transactions) where
-      pub cause_of_script : Kept o → (mid_held : Option Contents) (mid : ℕ) (fault : Fault) → mid_held ≡ o.held → o.read_before ≤ mid
+      pub cause_of_script : PrintedNothing o → (mid_held : Option Contents) (mid : ℕ) (fault : Fault) → mid_held ≡ o.held → o.read_before ≤ mid
           → Loads {X = Vec ℕ Global} mid_held names.script file_limit mid o.read_now IsContent RefusesNothing (Err fault) → Caused o words fault
       cause_of_script kept mid_held mid fault same risen h =
           cause_of o mid_held mid words for_script names.script same risen kept (at_script o.held words names is rules r next n transactions t) IsContent RefusesNothing
@@ -88,7 +88,7 @@ module _ (o : Outside) (words : List (List ℕ)) (names : Scripting) (is : comma
         abbrev played_game : Game
         played_game = record { rules = rules; next = next; transactions = transactions; script = script }
 
-        game_meant : Means o.held words (Ok (plays played_game))
+        game_meant : CommandMeans o.held words (Ok (plays played_game))
         game_meant = means o.held words for_script names.script (at_script o.held words names is rules r next n transactions t) script s (Ok (plays played_game)) (λ given. refl)
 
         begins_so : BeginsWithin o.held words
@@ -112,7 +112,7 @@ module _ (o : Outside) (words : List (List ℕ)) (names : Scripting) (is : comma
 -- ---- what was loaded
 
 pub next_read : (held mid_held : Option Contents) (file : Option (Bor (List ℕ))) (before now : ℕ) (next : Option RuleSet) → mid_held ≡ held → LoadsNext mid_held file before now (Ok next)
-    → ReadsNext held (name_of file) next
+    → ReadsNext held (file_name file) next
 next_read held mid_held None before now None same h = tt
 next_read held mid_held None before now (Some rules) same h = absurd h
 next_read held mid_held (Some file) before now None same h = absurd h.2

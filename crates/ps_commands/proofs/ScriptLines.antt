@@ -12,7 +12,7 @@ use Rattle.ps_core.specs.declared.worlds.World.{World}
 use Rattle.ps_core.specs.Worlds.{WorldStandsFor}
 use Rattle.ps_commands.specs.declared.replay_faults.ReplayFault.{ReplayFault}
 use Rattle.ps_commands.specs.declared.replay_faults.ReplayFault.TheVariants.{Refused, CannotWrite, Memory}
-use Rattle.ps_commands.specs.Scripts.{Gives, GivesUnless, PlaysLine, PlaysLines}
+use Rattle.ps_commands.specs.Scripts.{GivesLine, GivesUnless, PlaysLine, PlaysLines}
 use Rattle.ps_commands.specs.Replays.{Output, Replays, PrintsLine, PrintedFront, HasPlayed, HavePlayed, lines_left, bytes_left}
 
 -- ---- plays
@@ -25,7 +25,7 @@ play_more [] fixed play between after line text own (empty, same) one =
 play_more (l ∷ ls) fixed play between after line text own (first, rest, mid, here, on, is) one =
     (first, rest ++ own, mid, here, play_more ls fixed mid between after line rest own on one, ap (λ (t : List ℕ). t ++ own) is ∙ append_assoc first rest own)
 
-counts : (fixed : Fixed) (play after : Play) (line text : List ℕ) → is_skipped line ≡ false → Gives fixed play line text after → PlaysLine fixed play line text after
+counts : (fixed : Fixed) (play after : Play) (line text : List ℕ) → is_skipped line ≡ false → GivesLine fixed play line text after → PlaysLine fixed play line text after
 counts fixed play after line text full gives = subst (λ (b : Bool). GivesUnless b fixed play line text after) (sym full) gives
 
 skips : (fixed : Fixed) (play : Play) (line : List ℕ) → is_skipped line ≡ true → PlaysLine fixed play line [] play

@@ -16,7 +16,7 @@ use Rattle.ps_core.specs.PlayHeadline.{AreLed}
 use Rattle.ps_core.specs.declared.worlds.World.{World}
 use Rattle.ps_core.specs.WorldSteps.{Gave, Steps}
 use Rattle.ps_commands.specs.declared.replay_faults.ReplayFault.TheVariants as ends
-use Rattle.ps_commands.specs.Scripts.{fault_of}
+use Rattle.ps_commands.specs.Scripts.{script_fault}
 use Rattle.ps_commands.specs.Replays.{Output, StepsLine, SpellsLine, PrintsLine, refused_at}
 
 -- the event comes
@@ -40,7 +40,7 @@ spells fixed play line text event effect new is led gave text_is =
 
 -- the line is no event
 pub no_event : (fixed : Fixed) (play : Play) (line : List ℕ) (new : World) (fault : ScriptFault) → Reads {X = ScriptEvent} (Err fault) (event_of line) → StepsLine fixed play line new (Err fault)
-no_event fixed play line new BadEvent reads = ap (fault_of play) reads
+no_event fixed play line new BadEvent reads = ap (script_fault play) reads
 no_event fixed play line new UnknownClient reads = absurd reads
 no_event fixed play line new WrongPhase reads = absurd reads
 no_event fixed play line new Memory reads = tt
@@ -49,9 +49,9 @@ no_event fixed play line new Memory reads = tt
 pub steps_line : (fixed : Fixed) (play : Play) (line : List ℕ) (event : ScriptEvent) (new : World) (result : Result Effect ScriptFault) → event_of line ≡ Some event
     → Steps fixed play event new result → StepsLine fixed play line new result
 steps_line fixed play line event new (Ok effect) is gave = (event, is, gave)
-steps_line fixed play line event new (Err BadEvent) is steps = ap (fault_of play) is ∙ steps.refusal_is
-steps_line fixed play line event new (Err UnknownClient) is steps = ap (fault_of play) is ∙ steps.refusal_is
-steps_line fixed play line event new (Err WrongPhase) is steps = ap (fault_of play) is ∙ steps.refusal_is
+steps_line fixed play line event new (Err BadEvent) is steps = ap (script_fault play) is ∙ steps.refusal_is
+steps_line fixed play line event new (Err UnknownClient) is steps = ap (script_fault play) is ∙ steps.refusal_is
+steps_line fixed play line event new (Err WrongPhase) is steps = ap (script_fault play) is ∙ steps.refusal_is
 steps_line fixed play line event new (Err Memory) is steps = tt
 
 -- a line without an effect has no text

@@ -20,16 +20,16 @@ use Rattle.ps_files.specs.ReadingRising.{FindsRising, IsRisingFault}
 use Rattle.ps_commands.specs.Auditing.{Recorded, Judges, JudgesFile, verdict_text}
 use Rattle.ps_commands.specs.Commands.{Recording, audit, command_of, for_changes, for_stream}
 use Rattle.ps_commands.specs.Meanings.{refused, or_wide, judges}
-use Rattle.ps_commands.specs.Causes.{Means, Outside, Caused, reading, Ends, ending_in, FindsVerdict}
+use Rattle.ps_commands.specs.Causes.{CommandMeans, Outside, Caused, reading, EndsCommand, ending_in, FindsVerdict}
 use Rattle.ps_commands.specs.Replays.{lines_left}
 use Rattle.ps_commands.proofs.Causes.{cause_of, rising_refused}
 use Rattle.ps_commands.proofs.Nexts.{means, rising_left, recorded_of, at_source, at_stream}
 use Rattle.ps_commands.proofs.Readings.{ReadsRules, ReadsAsker, ReadsRising}
 use Rattle.ps_commands.proofs.ScriptLines.{Splits, lines_split}
 
-module _ (o : Outside) (words : List (List ℕ)) (recorded : Recorded) (m : Means o.held words (Ok (judges recorded))) where
+module _ (o : Outside) (words : List (List ℕ)) (recorded : Recorded) (m : CommandMeans o.held words (Ok (judges recorded))) where
   -- the verdict, printed
-  pub pronounced : (verdict : Verdict) → Judges recorded verdict → Gains o.taken_before o.taken_now (verdict_text verdict) → Ends o words (Ok (ending_in verdict))
+  pub pronounced : (verdict : Verdict) → Judges recorded verdict → Gains o.taken_before o.taken_now (verdict_text verdict) → EndsCommand o words (Ok (ending_in verdict))
   pronounced (Yes completed) judged printed =
       record { meant = judges recorded; means = m; text = verdict_text (Yes completed); says = (completed, judged, refl); printed = printed }
   pronounced (No completed line kind) judged printed =
@@ -55,7 +55,7 @@ module _ (held : Option Contents) (words : List (List ℕ)) (names : Recording) 
       abbrev recorded_so : Recorded
       recorded_so = recorded_of rules asker transactions stream
 
-      over_width : (wide : Bool) → has_wide rules.definitions transactions ≡ wide → Means held words (or_wide wide (judges recorded_so))
+      over_width : (wide : Bool) → has_wide rules.definitions transactions ≡ wide → CommandMeans held words (or_wide wide (judges recorded_so))
       over_width wide e =
           means held words for_stream names.stream (at_stream held words names is rules r asker a transactions t) stream s (or_wide wide (judges recorded_so))
           (λ given. ap (λ b. or_wide b (judges recorded_so)) e)
@@ -65,7 +65,7 @@ module _ (held : Option Contents) (words : List (List ℕ)) (names : Recording) 
       judged before now (Err Usage) h = absurd h
       judged before now (Err (Rules which line column why)) h = absurd h
       judged before now (Err (Change line why)) h = absurd h
-      judged before now (Err (PastLimit limit)) h = λ taken faults. (refl, subst (λ (l : Limit). Means held words (Err (refused (PastLimit l)))) (sym h.1) (over_width true h.0))
+      judged before now (Err (PastLimit limit)) h = λ taken faults. (refl, subst (λ (l : Limit). CommandMeans held words (Err (refused (PastLimit l)))) (sym h.1) (over_width true h.0))
       judged before now (Err (TooManyBuckets count)) h = absurd h
       judged before now (Err Claims) h = absurd h
       judged before now (Err Keys) h = absurd h

@@ -12,7 +12,7 @@ use Rattle.ps_audit.specs.declared.verdicts.Verdict.TheVariants.{Yes, No}
 use Rattle.ps_audit.specs.Counts.{has_wide}
 use Rattle.ps_audit.specs.Honest.{PassesHonest}
 use Rattle.ps_audit.specs.Judging.{IsVerdict}
-use Rattle.ps_audit.specs.Meaning.{Means}
+use Rattle.ps_audit.specs.Meaning.{VerdictMeans}
 use Rattle.ps_audit.specs.Positions.{case_for}
 use Rattle.ps_files.specs.declared.faults.Fault.{Fault}
 use Rattle.ps_files.specs.declared.faults.Fault.TheVariants.{Usage, Rules, Change, PastLimit, TooManyBuckets, Claims, Keys, TooLong, CannotRead, CannotWrite, Script, Memory}
@@ -73,7 +73,7 @@ stream_lines bytes = if lacks_feed bytes then lines_of bytes else take (length (
 pub record JudgesSo (rules : RuleSet) (transactions : List Transaction) (asker : Asker) (stream : List ℕ) (verdict : Verdict) : Type 0 where
   pub narrow : has_wide rules.definitions transactions ≡ false
   pub is : IsVerdict (case_for rules transactions asker) (stream_lines stream) verdict
-  pub means : Means verdict (case_for rules transactions asker) (stream_lines stream)
+  pub means : VerdictMeans verdict (case_for rules transactions asker) (stream_lines stream)
   pub honest : PassesHonest (stream_lines stream) (case_for rules transactions asker) rules verdict
 
 -- a recorded stream, and what it is judged over

@@ -3,7 +3,7 @@ use Rattle.std.specs.Prelude.{◌≡◌, ℕ, ◌≤◌, ◌&&◌, List, [], ◌
 use Rattle.std.specs.Borrow.{Bor}
 use Rattle.ps_io.specs.Contents.{Contents}
 use Rattle.ps_files.specs.HeldFiles.{rules_limit, file_limit, HoldsWithin}
-use Rattle.ps_files.specs.Making.{count_of, made_limit}
+use Rattle.ps_files.specs.Making.{count_to_make, made_limit}
 use Rattle.ps_due_rows.specs.declared.feedings.Feeding.{Feeding}
 use Rattle.ps_due_rows.specs.declared.feedings.Feeding.TheVariants.{Changes, FirstCopy}
 use Rattle.ps_commands.specs.declared.commands.Command.{Command as CommandSeen}
@@ -61,10 +61,10 @@ command_of [] = None
 command_of (w ∷ []) = None
 command_of (w ∷ a ∷ []) =
     if bytes_eq w (codes "check") then Some (check a) else
-    if bytes_eq w (codes "generate") then option_map generate (count_of a) else None
+    if bytes_eq w (codes "generate") then option_map generate (count_to_make a) else None
 command_of (w ∷ a ∷ b ∷ []) =
     if bytes_eq w (codes "compact") then Some (compact (record { rules = a; changes = b })) else
-    if bytes_eq w (codes "generate") && bytes_eq b (codes "lines") then option_map generate_lines (count_of a) else None
+    if bytes_eq w (codes "generate") && bytes_eq b (codes "lines") then option_map generate_lines (count_to_make a) else None
 command_of (w ∷ a ∷ b ∷ c ∷ []) =
     if bytes_eq w (codes "rows") then Some (rows (record { feeding = Changes; rules = a; changes = b; claims = c })) else
     if bytes_eq w (codes "snapshot") then Some (rows (record { feeding = FirstCopy; rules = a; changes = b; claims = c })) else
@@ -76,31 +76,31 @@ command_of (w ∷ a ∷ b ∷ c ∷ d ∷ []) =
 command_of (w ∷ a ∷ b ∷ c ∷ d ∷ e ∷ more) = None
 
 -- the name of a file, if there is one
-abbrev pub name_of : Option (Bor (List ℕ)) → Option (List ℕ)
-name_of None = None
-name_of (Some name) = Some name.now
+abbrev pub file_name : Option (Bor (List ℕ)) → Option (List ℕ)
+file_name None = None
+file_name (Some name) = Some name.now
 
 -- what a command of the program's code is
-abbrev pub named : CommandSeen → Command
-named (coded.Check rules) = check rules.now
-named (coded.Rows feeding rules changes claims) = rows (record { feeding = feeding; rules = rules.now; changes = changes.now; claims = claims.now })
-named (coded.Replay rules changes script next) = replay (record { rules = rules.now; next = name_of next; changes = changes.now; script = script.now })
-named (coded.Compact rules changes) = compact (record { rules = rules.now; changes = changes.now })
-named (coded.Token keys kid claims) = token (record { keys = keys.now; kid = kid.now; claims = claims.now })
-named (coded.Generate count) = generate count
-named (coded.GenerateLines count) = generate_lines count
-named (coded.Audit rules changes claims stream) = audit (record { rules = rules.now; changes = changes.now; claims = claims.now; stream = stream.now })
+abbrev pub command_of_code : CommandSeen → Command
+command_of_code (coded.Check rules) = check rules.now
+command_of_code (coded.Rows feeding rules changes claims) = rows (record { feeding = feeding; rules = rules.now; changes = changes.now; claims = claims.now })
+command_of_code (coded.Replay rules changes script next) = replay (record { rules = rules.now; next = file_name next; changes = changes.now; script = script.now })
+command_of_code (coded.Compact rules changes) = compact (record { rules = rules.now; changes = changes.now })
+command_of_code (coded.Token keys kid claims) = token (record { keys = keys.now; kid = kid.now; claims = claims.now })
+command_of_code (coded.Generate count) = generate count
+command_of_code (coded.GenerateLines count) = generate_lines count
+command_of_code (coded.Audit rules changes claims stream) = audit (record { rules = rules.now; changes = changes.now; claims = claims.now; stream = stream.now })
 
 -- as many transactions as may be made
-abbrev pub IsMade : CommandSeen → Type 0
-IsMade (coded.Check rules) = Unit {0}
-IsMade (coded.Rows feeding rules changes claims) = Unit {0}
-IsMade (coded.Replay rules changes script next) = Unit {0}
-IsMade (coded.Compact rules changes) = Unit {0}
-IsMade (coded.Token keys kid claims) = Unit {0}
-IsMade (coded.Generate count) = count ≤ made_limit
-IsMade (coded.GenerateLines count) = count ≤ made_limit
-IsMade (coded.Audit rules changes claims stream) = Unit {0}
+abbrev pub MayBeMade : CommandSeen → Type 0
+MayBeMade (coded.Check rules) = Unit {0}
+MayBeMade (coded.Rows feeding rules changes claims) = Unit {0}
+MayBeMade (coded.Replay rules changes script next) = Unit {0}
+MayBeMade (coded.Compact rules changes) = Unit {0}
+MayBeMade (coded.Token keys kid claims) = Unit {0}
+MayBeMade (coded.Generate count) = count ≤ made_limit
+MayBeMade (coded.GenerateLines count) = count ≤ made_limit
+MayBeMade (coded.Audit rules changes claims stream) = Unit {0}
 
 -- ---- the files of a command
 
@@ -147,24 +147,24 @@ files_of (generate_lines count) = []
 files_of (audit names) = file for_rules names.rules ∷ file for_claims names.claims ∷ file for_changes names.changes ∷ file for_stream names.stream ∷ []
 
 -- a number for each role
-abbrev pub place_of : Role → ℕ
-place_of for_rules = 0
-place_of for_next = 1
-place_of for_keys = 2
-place_of for_claims = 3
-place_of for_changes = 4
-place_of for_script = 5
-place_of for_stream = 6
+abbrev pub role_number : Role → ℕ
+role_number for_rules = 0
+role_number for_next = 1
+role_number for_keys = 2
+role_number for_claims = 3
+role_number for_changes = 4
+role_number for_script = 5
+role_number for_stream = 6
 
 -- the name of the file in that role, if there is one
 abbrev pub name_in : Role → List NamedFile → Option (List ℕ)
 name_in role [] = None
-name_in role (one ∷ rest) = if nat_eq (place_of one.role) (place_of role) then Some one.name else name_in role rest
+name_in role (one ∷ rest) = if nat_eq (role_number one.role) (role_number role) then Some one.name else name_in role rest
 
 -- ---- what they hold
 
 -- the bytes of a command's files, by their roles; None where there is no such file
-pub record Given : Type 0 where
+pub record GivenFiles : Type 0 where
   pub rules : Option (List ℕ)
   pub next : Option (List ℕ)
   pub keys : Option (List ℕ)
@@ -173,7 +173,7 @@ pub record Given : Type 0 where
   pub script : Option (List ℕ)
   pub stream : Option (List ℕ)
 
-abbrev pub in_role : Role → Given → Option (List ℕ)
+abbrev pub in_role : Role → GivenFiles → Option (List ℕ)
 in_role for_rules given = given.rules
 in_role for_next given = given.next
 in_role for_keys given = given.keys
@@ -183,7 +183,7 @@ in_role for_script given = given.script
 in_role for_stream given = given.stream
 
 -- without the file in that role
-abbrev pub without : Role → Given → Given
+abbrev pub without : Role → GivenFiles → GivenFiles
 without for_rules given = record { rules = None; next = given.next; keys = given.keys; claims = given.claims; changes = given.changes; script = given.script; stream = given.stream }
 without for_next given = record { rules = given.rules; next = None; keys = given.keys; claims = given.claims; changes = given.changes; script = given.script; stream = given.stream }
 without for_keys given = record { rules = given.rules; next = given.next; keys = None; claims = given.claims; changes = given.changes; script = given.script; stream = given.stream }
@@ -196,7 +196,7 @@ without for_stream given = record { rules = given.rules; next = given.next; keys
 abbrev pub content_in : Contents → Command → Role → Option (List ℕ)
 content_in held command role = option_and_then held (name_in role (files_of command))
 
-abbrev pub told : Contents → Command → Given
+abbrev pub told : Contents → Command → GivenFiles
 told held command = record {
   rules = content_in held command for_rules;
   next = content_in held command for_next;
@@ -208,7 +208,7 @@ told held command = record {
 }
 
 -- where files tell what they hold, that is given
-abbrev pub Agree : Option Contents → Command → Given → Type 0
+abbrev pub Agree : Option Contents → Command → GivenFiles → Type 0
 Agree None command given = Unit {0}
 Agree (Some held) command given = given ≡ told held command
 

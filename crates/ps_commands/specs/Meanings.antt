@@ -6,7 +6,7 @@ use Rattle.ps_definitions.specs.RuleSets.{RuleSet}
 use Rattle.ps_queries.specs.declared.askers.Asker.{Asker}
 use Rattle.ps_claims.specs.Claims.{asker_of_claims}
 use Rattle.ps_token.specs.KeyFiles.{keys_of_file}
-use Rattle.ps_token.specs.KeyLists.{key_of}
+use Rattle.ps_token.specs.KeyLists.{key_of_kid}
 use Rattle.ps_token.specs.Tokens.{signed_token}
 use Rattle.ps_token.specs.declared.key_lists.Key.{Key}
 use Rattle.ps_files.specs.declared.faults.Fault.{Fault}
@@ -14,7 +14,7 @@ use Rattle.ps_files.specs.declared.faults.Fault.TheVariants.{PastLimit, Claims, 
 use Rattle.ps_files.specs.ChangeFiles.{all_transactions_of, rising_transactions_of}
 use Rattle.ps_files.specs.Checking.{check_text}
 use Rattle.ps_files.specs.Compacting.{compact_text}
-use Rattle.ps_files.specs.Making.{lines_text}
+use Rattle.ps_files.specs.Making.{change_lines_text}
 use Rattle.ps_files.specs.RulesFaults.{as_next, rules_of_file}
 use Rattle.ps_showing.specs.Printing.{rows_text}
 use Rattle.ps_audit.specs.Counts.{has_wide}
@@ -23,7 +23,7 @@ use Rattle.ps_due_rows.specs.declared.feedings.Feeding.TheVariants.{Changes}
 use Rattle.ps_due_rows.specs.Dues.{rows_after}
 use Rattle.ps_due_rows.specs.FirstCopies.{fed_by}
 use Rattle.ps_commands.specs.Auditing.{Recorded, wide_limit}
-use Rattle.ps_commands.specs.Commands.{Command, check, rows, replay, compact, token, generate, generate_lines, audit, Role, for_rules, for_next, for_keys, for_claims, for_changes, for_script, for_stream, limit_of, Given}
+use Rattle.ps_commands.specs.Commands.{Command, check, rows, replay, compact, token, generate, generate_lines, audit, Role, for_rules, for_next, for_keys, for_claims, for_changes, for_script, for_stream, limit_of, GivenFiles}
 use Rattle.ps_commands.specs.Generating.{generated}
 use Rattle.ps_commands.specs.Replaying.{Game}
 
@@ -108,7 +108,7 @@ token_text key kid asker = signed_token key kid asker.payload ++ codes "\n"
 
 -- what a command means over its files, or the first refusal: rules before the next rules before claims before changes before the script or the stream; for
 -- `token` keys before claims before the kid
-abbrev pub meaning : Command → Given → Result Meant Refusal
+abbrev pub meaning : Command → GivenFiles → Result Meant Refusal
 meaning (check name) given = do
   rules ← rules_in given.rules
   Ok (prints (check_text rules))
@@ -131,12 +131,12 @@ meaning (compact names) given = do
 meaning (token names) given = do
   keys ← keys_in given.keys
   asker ← asker_in given.claims
-  key ← or_none Keys (key_of names.kid keys)
+  key ← or_none Keys (key_of_kid names.kid keys)
   Ok (prints (token_text key names.kid asker))
 meaning (generate count) given = do
   text ← or_refused (generated count)
   Ok (prints text)
-meaning (generate_lines count) given = Ok (prints (lines_text (made_input count)))
+meaning (generate_lines count) given = Ok (prints (change_lines_text (made_input count)))
 meaning (audit names) given = do
   rules ← rules_in given.rules
   asker ← asker_in given.claims

@@ -19,7 +19,7 @@ use Rattle.ps_core.specs.Worlds.{WorldStandsFor}
 use Rattle.ps_core.specs.WorldSteps.{Gave}
 use Rattle.ps_commands.specs.declared.replay_faults.ReplayFault.{ReplayFault}
 use Rattle.ps_commands.specs.declared.replay_faults.ReplayFault.TheVariants.{Refused, CannotWrite, Memory}
-use Rattle.ps_commands.specs.Scripts.{Gives, PlaysLines, RefusesLine, fault_of}
+use Rattle.ps_commands.specs.Scripts.{GivesLine, PlaysLines, RefusesLine, script_fault}
 
 -- what is seen of a sink before and after
 pub record Output : Type 0 where
@@ -80,24 +80,24 @@ Replays fixed play script out (Err Memory) = EndsEarly fixed play script out
 -- what one line that counts makes of a world: the effect of its event, if that comes
 abbrev pub StepsLine : Fixed → Play → List ℕ → World → Result Effect ScriptFault → Type 0
 StepsLine fixed play line new (Ok effect) = (event : ScriptEvent) × (event_of line ≡ Some event) × Gave fixed play event new effect
-StepsLine fixed play line new (Err BadEvent) = fault_of play (event_of line) ≡ Some BadEvent
-StepsLine fixed play line new (Err UnknownClient) = fault_of play (event_of line) ≡ Some UnknownClient
-StepsLine fixed play line new (Err WrongPhase) = fault_of play (event_of line) ≡ Some WrongPhase
+StepsLine fixed play line new (Err BadEvent) = script_fault play (event_of line) ≡ Some BadEvent
+StepsLine fixed play line new (Err UnknownClient) = script_fault play (event_of line) ≡ Some UnknownClient
+StepsLine fixed play line new (Err WrongPhase) = script_fault play (event_of line) ≡ Some WrongPhase
 StepsLine fixed play line new (Err scripts.Memory) = Unit {0}
 
 -- what one line that counts does: its text, if its event comes
 abbrev pub SpellsLine : Fixed → Play → List ℕ → World → Result (List ℕ) ScriptFault → Type 0
-SpellsLine fixed play line new (Ok text) = (after : Play) × Gives fixed play line text after × WorldStandsFor fixed new after × AreLed fixed after
-SpellsLine fixed play line new (Err BadEvent) = fault_of play (event_of line) ≡ Some BadEvent
-SpellsLine fixed play line new (Err UnknownClient) = fault_of play (event_of line) ≡ Some UnknownClient
-SpellsLine fixed play line new (Err WrongPhase) = fault_of play (event_of line) ≡ Some WrongPhase
+SpellsLine fixed play line new (Ok text) = (after : Play) × GivesLine fixed play line text after × WorldStandsFor fixed new after × AreLed fixed after
+SpellsLine fixed play line new (Err BadEvent) = script_fault play (event_of line) ≡ Some BadEvent
+SpellsLine fixed play line new (Err UnknownClient) = script_fault play (event_of line) ≡ Some UnknownClient
+SpellsLine fixed play line new (Err WrongPhase) = script_fault play (event_of line) ≡ Some WrongPhase
 SpellsLine fixed play line new (Err scripts.Memory) = Unit {0}
 
 -- it is printed
 pub record Printed (fixed : Fixed) (play : Play) (line : List ℕ) (new : World) (out : Output) : Type 0 where
   pub text : List ℕ
   pub after : Play
-  pub gives : Gives fixed play line text after
+  pub gives : GivesLine fixed play line text after
   pub stands : WorldStandsFor fixed new after
   pub led : AreLed fixed after
   pub gains : Gains out.old out.new text
@@ -105,13 +105,13 @@ pub record Printed (fixed : Fixed) (play : Play) (line : List ℕ) (new : World)
 pub record PrintedFront (fixed : Fixed) (play : Play) (line : List ℕ) (out : Output) : Type 0 where
   pub text : List ℕ
   pub after : Play
-  pub gives : Gives fixed play line text after
+  pub gives : GivesLine fixed play line text after
   pub front : GainsFront out.old out.new text
   pub rose : Rose out.before out.now
 
 abbrev pub PrintsLine : Fixed → Play → List ℕ → ℕ → World → Output → Result (Unit {0}) ReplayFault → Type 0
 PrintsLine fixed play line number new out (Ok done) = Printed fixed play line new out
-PrintsLine fixed play line number new out (Err (Refused at fault)) = (at ≡ number) × (fault_of play (event_of line) ≡ Some fault) × (out.new ≡ out.old)
+PrintsLine fixed play line number new out (Err (Refused at fault)) = (at ≡ number) × (script_fault play (event_of line) ≡ Some fault) × (out.new ≡ out.old)
 PrintsLine fixed play line number new out (Err CannotWrite) = PrintedFront fixed play line out
 PrintsLine fixed play line number new out (Err Memory) = out.new ≡ out.old
 

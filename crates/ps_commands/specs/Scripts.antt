@@ -9,36 +9,36 @@ use Rattle.ps_script.specs.Lines.{is_skipped}
 use Rattle.ps_core.specs.Texts.{effect_text}
 use Rattle.ps_core.specs.Plays.{Play, Outcome}
 use Rattle.ps_core.specs.PlaySteps.{Comes, refusal}
-use Rattle.ps_core.specs.PlayHeadline.{IsRight}
+use Rattle.ps_core.specs.PlayHeadline.{IsRightOutcome}
 
 -- ---- a line
 
 -- the event of a line comes: its text is printed, and this is the play after it; no client was led wrong
-pub record Gives (fixed : Fixed) (play : Play) (line text : List ℕ) (after : Play) : Type 0 where
+pub record GivesLine (fixed : Fixed) (play : Play) (line text : List ℕ) (after : Play) : Type 0 where
   pub event : ScriptEvent
   pub event_is : event_of line ≡ Some event
   pub outcome : Outcome
   pub comes : Comes fixed play event outcome
-  pub right : IsRight fixed play event outcome
+  pub right : IsRightOutcome fixed play event outcome
   pub text_is : text ≡ effect_text outcome.effect
   pub after_is : after ≡ outcome.play
 
 -- a line that is skipped prints nothing and changes nothing
 abbrev pub GivesUnless : Bool → Fixed → Play → List ℕ → List ℕ → Play → Type 0
 GivesUnless true fixed play line text after = (text ≡ []) × (after ≡ play)
-GivesUnless false fixed play line text after = Gives fixed play line text after
+GivesUnless false fixed play line text after = GivesLine fixed play line text after
 
 abbrev pub PlaysLine : Fixed → Play → List ℕ → List ℕ → Play → Type 0
 PlaysLine fixed play line text after = GivesUnless (is_skipped line) fixed play line text after
 
 -- why a line is refused: it is no event; else, the event may not come
-abbrev pub fault_of : Play → Option ScriptEvent → Option ScriptFault
-fault_of play None = Some BadEvent
-fault_of play (Some event) = refusal play event
+abbrev pub script_fault : Play → Option ScriptEvent → Option ScriptFault
+script_fault play None = Some BadEvent
+script_fault play (Some event) = refusal play event
 
 pub record RefusesLine (play : Play) (line : List ℕ) (fault : ScriptFault) : Type 0 where
   pub counts : is_skipped line ≡ false
-  pub fault_is : fault_of play (event_of line) ≡ Some fault
+  pub fault_is : script_fault play (event_of line) ≡ Some fault
 
 -- ---- lines
 

@@ -1,7 +1,7 @@
 //! The commands of the program, as its words name them.
 
 ghost use Rattle.std.specs.Prelude.{◌≡◌, [], ◌∷◌, option_map, IfSome};
-ghost use Rattle.ps_commands.specs.Commands.{command_of, named, IsMade};
+ghost use Rattle.ps_commands.specs.Commands.{command_of, command_of_code, MayBeMade};
 
 use ps_data::Text;
 use ps_due_rows::Feeding;
@@ -60,8 +60,8 @@ pub(crate) enum Command<'a> {
 
 /// The command that words are, or None where they are no command.
 pub(crate) fn read_words<'a>(words: &'a [Text]) -> Option<Command<'a>>
-    ensures command { option_map named result ≡ command_of words.now }
-    ensures made { IfSome result IsMade }
+    ensures command { option_map command_of_code result ≡ command_of words.now }
+    ensures made { IfSome result MayBeMade }
 {
     match words {
         [word, second] => of_two(word, second),
@@ -74,8 +74,8 @@ pub(crate) fn read_words<'a>(words: &'a [Text]) -> Option<Command<'a>>
 
 // The command of two words.
 fn of_two<'a>(word: &Text, second: &'a Text) -> Option<Command<'a>>
-    ensures command { option_map named result ≡ command_of (word.now ∷ second.now ∷ []) }
-    ensures made { IfSome result IsMade }
+    ensures command { option_map command_of_code result ≡ command_of (word.now ∷ second.now ∷ []) }
+    ensures made { IfSome result MayBeMade }
 {
     match word.as_str() {
         "check" => Some(Command::Check { rules: second }),
@@ -89,8 +89,8 @@ fn of_two<'a>(word: &Text, second: &'a Text) -> Option<Command<'a>>
 
 // The command of three words.
 fn of_three<'a>(word: &Text, second: &'a Text, third: &'a Text) -> Option<Command<'a>>
-    ensures command { option_map named result ≡ command_of (word.now ∷ second.now ∷ third.now ∷ []) }
-    ensures made { IfSome result IsMade }
+    ensures command { option_map command_of_code result ≡ command_of (word.now ∷ second.now ∷ third.now ∷ []) }
+    ensures made { IfSome result MayBeMade }
 {
     match (word.as_str(), third.as_str()) {
         ("compact", _) => Some(Command::Compact {
@@ -112,8 +112,8 @@ fn of_four<'a>(
     third: &'a Text,
     fourth: &'a Text,
 ) -> Option<Command<'a>>
-    ensures command { option_map named result ≡ command_of (word.now ∷ second.now ∷ third.now ∷ fourth.now ∷ []) }
-    ensures made { IfSome result IsMade }
+    ensures command { option_map command_of_code result ≡ command_of (word.now ∷ second.now ∷ third.now ∷ fourth.now ∷ []) }
+    ensures made { IfSome result MayBeMade }
 {
     match word.as_str() {
         "rows" => Some(Command::Rows {
@@ -151,8 +151,8 @@ fn of_five<'a>(
     fourth: &'a Text,
     fifth: &'a Text,
 ) -> Option<Command<'a>>
-    ensures command { option_map named result ≡ command_of (word.now ∷ second.now ∷ third.now ∷ fourth.now ∷ fifth.now ∷ []) }
-    ensures made { IfSome result IsMade }
+    ensures command { option_map command_of_code result ≡ command_of (word.now ∷ second.now ∷ third.now ∷ fourth.now ∷ fifth.now ∷ []) }
+    ensures made { IfSome result MayBeMade }
 {
     match word.as_str() {
         "audit" => Some(Command::Audit {

@@ -9,9 +9,9 @@ ghost use Rattle.ps_commands.specs.Generating.{all_after, all_before, generated,
 
 use ps_data::{Memory, Text};
 use ps_due_rows::synced_rows;
-use ps_files::{Compacted, compact_all, made_input_is_admitted, made_rules_are_read, write_made};
+use ps_files::{Compacted, compact_all, write_made};
 use ps_sql_eval::Asker;
-use ps_store::{Store, TakeFault, Totals, ledgers_tell_ops};
+use ps_store::{Store, TakeFault, Totals};
 use std::alloc::Global;
 
 // The asker of the one stream.
@@ -32,7 +32,7 @@ fn count_rows(alloc: Global, store: &Store) -> Result<usize, Memory>
     ensures { (transactions : List TransactionData) → HasCommitted made_rule_set transactions store.now
         → IfOk result (λ count. count ≡ length (made_rows transactions)) }
 {
-    ledgers_tell_ops();
+    ps_store::laws::ledgers_tell_ops();
     let asker = made_asker(alloc)?;
     match synced_rows(alloc, store, asker) {
         Ok(rows) => Ok(rows.len()),
@@ -107,8 +107,8 @@ pub fn print_summary(alloc: Global, count: u32) -> Result<Vec<u8>, Memory>
     requires { count ≤ made_limit }
     ensures { IfOk result (λ text. generated count ≡ Ok text.items) }
 {
-    made_rules_are_read();
-    made_input_is_admitted();
+    ps_files::laws::made_rules_are_read();
+    ps_files::laws::made_input_is_admitted();
     let mut store = write_made(alloc, count)?;
     summarize_store(alloc, &mut store)
 }

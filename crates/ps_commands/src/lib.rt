@@ -6,8 +6,8 @@ mod commands;
 mod endings;
 mod generating;
 mod plain;
-mod playing;
 mod replay_faults;
 mod replaying;
+mod scripts;
 
 pub use plain::run_plain;

@@ -4,7 +4,7 @@ ghost use Rattle.ps_io.specs.Counts.{Rose};
 ghost use Rattle.ps_files.specs.Loading.{MissesNamed};
 ghost use Rattle.ps_files.specs.Making.{made_limit};
 ghost use Rattle.ps_commands.specs.Commands.{command_of, check as check_command, rows as rows_command, compact as compact_command, token as token_command, generate as generate_command, generate_lines as generate_lines_command, BeginsWithin};
-ghost use Rattle.ps_commands.specs.Causes.{Finds, FindsVerdict, Outside, Outcome, Ends, ending_in, Prints, PrintsNo, PrintsFront, PrintsSome, StopsScript, Refuses, ExceedsLimit, IsNext, IsExact, SaysCause};
+ghost use Rattle.ps_commands.specs.Causes.{FindsText, FindsVerdict, Outside, Outcome, EndsCommand, ending_in, Prints, PrintsNo, PrintsFront, PrintsSome, StopsScript, Refuses, ExceedsLimit, IsNextFile, IsExact, SaysCause};
 ghost use Rattle.ps_files.specs.declared.faults.LineFault.{LineFault as LineFaultData};
 ghost use Rattle.ps_files.specs.declared.faults.RulesCause.{RulesCause as RulesCauseData};
 ghost use Rattle.ps_files.specs.declared.faults.RulesFile.{RulesFile as RulesFileData};
@@ -18,9 +18,7 @@ use crate::replaying::replay_files;
 use ps_audit::Verdict;
 use ps_data::Text;
 use ps_due_rows::{Feeding, load_rows};
-use ps_files::{
-    Fault, load_asker, load_keys, load_reports, load_rules, print_check, print_made, say, sign_line,
-};
+use ps_files::{Fault, load_asker, load_keys, load_reports, load_rules, print_check, print_made, say, sign_line};
 use ps_io::{Files, Sink};
 use ps_token::SignFault;
 use std::alloc::Global;
@@ -28,7 +26,7 @@ use std::alloc::Global;
 // What the rules have.
 fn check<'a, F: Files>(alloc: Global, rules: &'a Text, files: &mut F) -> Result<Vec<u8>, Fault<'a>>
     ensures finds { (words : List (List ℕ)) → command_of words ≡ Some (check_command rules.now)
-        → Finds (F.held files.old) (F.faults files.old) (F.faults files.new) words result }
+        → FindsText (F.held files.old) (F.faults files.old) (F.faults files.new) words result }
     ensures missed { MissesNamed (F.missed files.old) (F.missed files.new) result }
 {
     let rules = load_rules(alloc, files, rules)?;
@@ -45,7 +43,7 @@ fn rows<'a, F: Files>(
     files: &mut F,
 ) -> Result<Vec<u8>, Fault<'a>>
     ensures finds { (words : List (List ℕ)) → command_of words ≡ Some (rows_command (record { feeding = feeding; rules = rules.now; changes = changes.now; claims = claims.now }))
-        → Finds (F.held files.old) (F.faults files.old) (F.faults files.new) words result }
+        → FindsText (F.held files.old) (F.faults files.old) (F.faults files.new) words result }
     ensures missed { MissesNamed (F.missed files.old) (F.missed files.new) result }
 {
     let rules = load_rules(alloc, files, rules)?;
@@ -61,7 +59,7 @@ fn compact<'a, F: Files>(
     files: &mut F,
 ) -> Result<Vec<u8>, Fault<'a>>
     ensures finds { (words : List (List ℕ)) → command_of words ≡ Some (compact_command (record { rules = rules.now; changes = changes.now }))
-        → Finds (F.held files.old) (F.faults files.old) (F.faults files.new) words result }
+        → FindsText (F.held files.old) (F.faults files.old) (F.faults files.new) words result }
     ensures missed { MissesNamed (F.missed files.old) (F.missed files.new) result }
 {
     let rules = load_rules(alloc, files, rules)?;
@@ -77,7 +75,7 @@ fn token<'a, F: Files>(
     files: &mut F,
 ) -> Result<Vec<u8>, Fault<'a>>
     ensures finds { (words : List (List ℕ)) → command_of words ≡ Some (token_command (record { keys = keys.now; kid = kid.now; claims = claims.now }))
-        → Finds (F.held files.old) (F.faults files.old) (F.faults files.new) words result }
+        → FindsText (F.held files.old) (F.faults files.old) (F.faults files.new) words result }
     ensures missed { MissesNamed (F.missed files.old) (F.missed files.new) result }
 {
     let keys = load_keys(alloc, files, keys)?;
@@ -93,7 +91,7 @@ fn token<'a, F: Files>(
 fn generate<'a>(alloc: Global, count: u32) -> Result<Vec<u8>, Fault<'a>>
     requires { count ≤ made_limit }
     ensures finds { (held : Option Contents) (before now : ℕ) (words : List (List ℕ)) → command_of words ≡ Some (generate_command count)
-        → Finds held before now words result }
+        → FindsText held before now words result }
     ensures missed { (names : Option (List (List ℕ))) → MissesNamed names names result }
 {
     Ok(print_summary(alloc, count)?)
@@ -103,7 +101,7 @@ fn generate<'a>(alloc: Global, count: u32) -> Result<Vec<u8>, Fault<'a>>
 fn generate_lines<'a>(alloc: Global, count: u32) -> Result<Vec<u8>, Fault<'a>>
     requires { count ≤ made_limit }
     ensures finds { (held : Option Contents) (before now : ℕ) (words : List (List ℕ)) → command_of words ≡ Some (generate_lines_command count)
-        → Finds held before now words result }
+        → FindsText held before now words result }
     ensures missed { (names : Option (List (List ℕ))) → MissesNamed names names result }
 {
     Ok(print_made(alloc, count)?)
@@ -111,7 +109,7 @@ fn generate_lines<'a>(alloc: Global, count: u32) -> Result<Vec<u8>, Fault<'a>>
 
 // Prints what a command found, all at once.
 fn print<'a, K: Sink>(found: Result<Vec<u8>, Fault<'a>>, out: &mut K) -> Result<Ending, Fault<'a>>
-    ensures outcome { (held : Option Contents) (before now : ℕ) (words : List (List ℕ)) → Finds held before now words found.entry → Ends (record {
+    ensures outcome { (held : Option Contents) (before now : ℕ) (words : List (List ℕ)) → FindsText held before now words found.entry → EndsCommand (record {
       held = held;
       read_before = before;
       read_now = now;
@@ -145,7 +143,7 @@ fn pronounce<'a, K: Sink>(
     found: Result<Verdict, Fault<'a>>,
     out: &mut K,
 ) -> Result<Ending, Fault<'a>>
-    ensures outcome { (held : Option Contents) (before now : ℕ) (words : List (List ℕ)) → FindsVerdict held before now words found.entry → Ends (record {
+    ensures outcome { (held : Option Contents) (before now : ℕ) (words : List (List ℕ)) → FindsVerdict held before now words found.entry → EndsCommand (record {
       held = held;
       read_before = before;
       read_now = now;
@@ -167,7 +165,7 @@ fn pronounce<'a, K: Sink>(
 
 // What a script ends with, which prints as it goes.
 fn done<'a>(outcome: Result<(), Fault<'a>>) -> Result<Ending, Fault<'a>>
-    ensures outcome { (o : Outside) (words : List (List ℕ)) → Outcome o words outcome.entry → Ends o words result }
+    ensures outcome { (o : Outside) (words : List (List ℕ)) → Outcome o words outcome.entry → EndsCommand o words result }
     ensures missed { (before after : Option (List (List ℕ)))
         → MissesNamed before after outcome.entry → MissesNamed before after result }
 {
@@ -182,7 +180,7 @@ fn command<'a, F: Files, K: Sink>(
     files: &mut F,
     out: &mut K,
 ) -> Result<Ending, Fault<'a>>
-    ensures outcome { Ends (record {
+    ensures outcome { EndsCommand (record {
       held = F.held files.old;
       read_before = F.faults files.old;
       read_now = F.faults files.new;
@@ -259,7 +257,7 @@ pub fn run_plain<F: Files, K: Sink, E: Sink>(
     ensures claims { result ≡ 4 → Refuses (F.held files.old) words.now Fault.Keys ⊎ Refuses (F.held files.old) words.now Fault.Claims }
     ensures limits { result ≡ 5 → ExceedsLimit (F.held files.old) words.now }
     ensures unread { result ≡ 6 → Rose (F.faults files.old) (F.faults files.new)
-        × (name : List ℕ) × IsNext (F.held files.old) words.now name × Joins (F.missed files.old) (F.missed files.new) name }
+        × (name : List ℕ) × IsNextFile (F.held files.old) words.now name × Joins (F.missed files.old) (F.missed files.new) name }
     ensures missed { result ≢ 6 → F.missed files.new ≡ F.missed files.old }
     ensures unwritten { result ≡ 7 → Rose (K.faults out.old) (K.faults out.new)
         × PrintsFront (F.held files.old) words.now (K.taken out.old) (K.taken out.new) }

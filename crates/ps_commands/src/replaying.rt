@@ -4,11 +4,11 @@ ghost use Rattle.std.specs.Prelude.{◌≡◌, ◌<◌, ◌≤◌, ◌^◌, ℕ,
 ghost use Rattle.ps_core.specs.Scripts.{AreLow};
 ghost use Rattle.ps_files.specs.Loading.{MissesNamed};
 ghost use Rattle.ps_commands.specs.Causes.{Outcome};
-ghost use Rattle.ps_commands.specs.Commands.{command_of, name_of, replay as replay_command};
+ghost use Rattle.ps_commands.specs.Commands.{command_of, file_name, replay as replay_command};
 ghost use Rattle.ps_commands.specs.Replaying.{PlaysOut, LoadsNext, stopped_by};
 
-use crate::playing::replay;
 use crate::replay_faults::ReplayFault;
+use crate::scripts::replay;
 use ps_data::Text;
 use ps_definitions::Rules;
 use ps_files::{FILE_LIMIT, Fault, ScriptCause, load, load_next, load_rules, load_transactions};
@@ -95,7 +95,7 @@ pub fn replay_files<'a, F: Files, K: Sink>(
     files: &mut F,
     out: &mut K,
 ) -> Result<(), Fault<'a>>
-    ensures outcome { (words : List (List ℕ)) → command_of words ≡ Some (replay_command (record { rules = rules.now; next = name_of next.entry; changes = changes.now; script = script.now })) → Outcome (record {
+    ensures outcome { (words : List (List ℕ)) → command_of words ≡ Some (replay_command (record { rules = rules.now; next = file_name next.entry; changes = changes.now; script = script.now })) → Outcome (record {
       held = F.held files.old;
       read_before = F.faults files.old;
       read_now = F.faults files.new;

@@ -7,8 +7,8 @@ use Rattle.ps_data.specs.declared.ids.OpId.{OpId}
 use Rattle.ps_bucket_log.specs.declared.ops.Key.{Key}
 use Rattle.ps_bucket_log.specs.declared.ops.Op.{Op}
 use Rattle.ps_bucket_log.specs.declared.ops.Op.TheVariants.{Put, Remove, Move, Clear}
-use Rattle.ps_bucket_log.specs.Ops.{id_of, id_or_zero, is_put, is_clear, is_of, same_key, has_clear, has_id, occurs, upto, past, newest, place_after, sum_of, greatest_target}
-use Rattle.ps_bucket_log.specs.Buckets.{Bucket, held_after, after, fresh, bucket_of}
+use Rattle.ps_bucket_log.specs.Ops.{id_of, id_or_zero, is_put, is_clear, is_of_key, same_key, has_clear, has_id, occurs, upto, past, newest, place_after, sum_of, greatest_target}
+use Rattle.ps_bucket_log.specs.Buckets.{Bucket, held_after, after, fresh_bucket, bucket_of}
 use Rattle.ps_bucket_log.specs.Logs.{IsRising, AreEntries, IsLog, cleared, rest}
 use Rattle.ps_bucket_log.specs.Standing.{Matches, ClearStands, StandsFor, IsHonestUpTo}
 use Rattle.ps_bucket_log.specs.Laws.{StaysHonestUpTo, FreshIsHonest, StandsForItself, StandingIsLog, WithinLevel, SameSums, TotalIsSum, StandsAfter}
@@ -124,8 +124,8 @@ occurs-behind key c k [] low = refl
 occurs-behind key c k (op ∷ ops) low = elim (cases_lt k (id_of op)) [
   | inl above ↦
       rw (lt-ltb k (id_of op) above)
-      (or_from (is_of key op && leb (id_of op) c) (occurs key c (past k ops))
-      (and_right (is_of key op) (leb (id_of op) c) (lt-leb (id_of op) c (omega arith))) (occurs-behind key c k ops low))
+      (or_from (is_of_key key op && leb (id_of op) c) (occurs key c (past k ops))
+      (and_right (is_of_key key op) (leb (id_of op) c) (lt-leb (id_of op) c (omega arith))) (occurs-behind key c k ops low))
   | inr below ↦ rw (le-ltb k (id_of op) below) (occurs-behind key c k ops low)
 ]
 
@@ -155,14 +155,14 @@ gone : Laws → (original : List Op) (m k : ℕ) (front log : List Op) → Stand
     → (key : Key) → occurs key (id_or_zero (target_past k (greatest_target front))) (past k original) ≡ false → (bucket_of (upto k original)).held key ≡ None
 gone laws original m k front log stands written rising low newest_is front_is no_put key none =
     let c : ℕ = id_or_zero (greatest_target front) in
-    let read : upto k (past fresh.position log) ≡ front ++ [] =
+    let read : upto k (past fresh_bucket.position log) ≡ front ++ [] =
     ap (upto k) (past-rising 0 0 log rising (omega arith)) ∙ front_is ∙ sym (append-nil front) in
-    let honest : IsHonestUpTo (fold after fresh front) original m c =
-    laws.stays log original m m k c fresh front [] stands written low read (target-own (greatest_target front)) (laws.afresh original m c written) in
-    let place : (fold after fresh front).position ≡ k = laws.place fresh front ∙ newest_is in
-    let unmet : occurs key c (past (fold after fresh front).position original) ≡ false =
+    let honest : IsHonestUpTo (fold after fresh_bucket front) original m c =
+    laws.stays log original m m k c fresh_bucket front [] stands written low read (target-own (greatest_target front)) (laws.afresh original m c written) in
+    let place : (fold after fresh_bucket front).position ≡ k = laws.place fresh_bucket front ∙ newest_is in
+    let unmet : occurs key c (past (fold after fresh_bucket front).position original) ≡ false =
     ap (λ p. occurs key c (past p original)) place ∙ occurs-target key k (greatest_target front) original none in
-    ap (λ p. (bucket_of (upto p original)).held key) (sym place) ∙ sym (honest.keys key unmet) ∙ held-without key fresh front no_put refl
+    ap (λ p. (bucket_of (upto p original)).held key) (sym place) ∙ sym (honest.keys key unmet) ∙ held-without key fresh_bucket front no_put refl
 
 clear_stands : Laws → (original : List Op) (m : ℕ) (x : Op) (xs back : List Op) → StandsFor (x ∷ xs ++ back) original m → AreEntries 0 original → IsRising 0 (x ∷ xs ++ back)
     → newest (x ∷ xs) ≤ m → list_any is_put (x ∷ xs) ≡ false

@@ -6,7 +6,7 @@ use Rattle.ps_data.specs.declared.ids.OpId.{OpId}
 use Rattle.ps_bucket_log.specs.declared.ops.Key.{Key}
 use Rattle.ps_bucket_log.specs.declared.ops.Op.{Op}
 use Rattle.ps_bucket_log.specs.declared.ops.Op.TheVariants.{Put, Remove, Move, Clear}
-use Rattle.ps_bucket_log.specs.Ops.{id_of, id_or_zero, is_entry, is_clear, is_of, same_key, has_clear, occurs_at, upto, past}
+use Rattle.ps_bucket_log.specs.Ops.{id_of, id_or_zero, is_entry, is_clear, is_of_key, same_key, has_clear, occurs_at, upto, past}
 use Rattle.ps_bucket_log.specs.Logs.{IsRising}
 use Rattle.ps_bucket_log.specs.Standing.{IsMoveOf, Matches, ClearStands, FirstStands, StandsFor}
 use Rattle.ps_compact.specs.Compaction.{first_id, own_id, last_of, target_behind, moved_to, moved}
@@ -65,19 +65,19 @@ record IsFound (key : Key) (m p : ℕ) (ys : List Op) (t : OpId) : Type 0 where
 
 record IsOwn (key : Key) (x y : Op) (t : OpId) : Type 0 where
   is : id_of x ≡ t.0
-  of_key : is_of key y ≡ true
+  of_key : is_of_key key y ≡ true
   partner : id_of y ≡ t.0
 
 own_found : (key : Key) (original : List Op) (level : ℕ) (x y : Op) (t : OpId) → Matches original level x y → own_id key x ≡ Some t → IsOwn key x y t
-own_found key original level x y t matched is = elim (cases_Bool (is_of key x)) [
+own_found key original level x y t matched is = elim (cases_Bool (is_of_key key x)) [
   | inl mine ↦
       let own : OpId = record { 0 = id_of x } in
       let same : Some own ≡ Some t = rw mine at is in
       let equal : own ≡ t = cc in
       let ids : id_of x ≡ t.0 = ap (λ (id : OpId). id.0) equal in
       elim matched [
-        | inl twin ↦ record { is = ids; of_key = sym (ap (is_of key) twin) ∙ mine; partner = sym (ap id_of twin) ∙ ids }
-        | inr move ↦ absurd (both_ways (is_of key x) (ap (is_of key) move.is) mine)
+        | inl twin ↦ record { is = ids; of_key = sym (ap (is_of_key key) twin) ∙ mine; partner = sym (ap id_of twin) ∙ ids }
+        | inr move ↦ absurd (both_ways (is_of_key key x) (ap (is_of_key key) move.is) mine)
       ]
   | inr other ↦
       let nothing : Option OpId = None in
@@ -94,14 +94,14 @@ last_found-step key original level m p x y ys t (Some id) above within matched b
     record {
       within = found.within;
       above = omega (arith, found.above);
-      there = or_right (is_of key y && eqb (id_of y) t.0) (occurs_at key t.0 ys) found.there;
+      there = or_right (is_of_key key y && eqb (id_of y) t.0) (occurs_at key t.0 ys) found.there;
     }
 last_found-step key original level m p x y ys t None above within matched behind is =
     let own = own_found key original level x y t matched is in
     record {
       within = omega (arith, own.is);
       above = omega (arith, own.is);
-      there = or_left (is_of key y && eqb (id_of y) t.0) (occurs_at key t.0 ys) (rw (own.of_key, own.partner) (eq-eqb t.0 t.0 refl));
+      there = or_left (is_of_key key y && eqb (id_of y) t.0) (occurs_at key t.0 ys) (rw (own.of_key, own.partner) (eq-eqb t.0 t.0 refl));
     }
 
 last_found : (key : Key) (original : List Op) (level m p : ℕ) (xs ys : List Op) (t : OpId)
@@ -114,7 +114,7 @@ last_found key original level m p (x ∷ xs) (y ∷ ys) t rising pairs is = elim
       record {
         within = found.within;
         above = omega (arith, found.above, rising.0);
-        there = or_right (is_of key y && eqb (id_of y) t.0) (occurs_at key t.0 ys) found.there;
+        there = or_right (is_of_key key y && eqb (id_of y) t.0) (occurs_at key t.0 ys) found.there;
       }
   | inr below ↦ last_found-step key original level m p x y ys t (last_of key (upto m xs)) rising.0 below pairs.0
       (last_found key original level m (id_of x) xs ys t rising.1 pairs.1) (rw (le-leb (id_of x) m below) at is)
@@ -123,7 +123,7 @@ last_found key original level m p (x ∷ xs) (y ∷ ys) t rising pairs is = elim
 -- an operation that is moved
 
 entry_moved : (original : List Op) (level m : ℕ) (own : Key) (x y : Op) (xs ys : List Op) (t : OpId)
-    → is_entry x ≡ true → ((key : Key) → is_of key x ≡ same_key key own) → id_of x ≤ m → Matches original level x y
+    → is_entry x ≡ true → ((key : Key) → is_of_key key x ≡ same_key key own) → id_of x ≤ m → Matches original level x y
     → past (id_of x) original ≡ ys → IsRising (id_of x) xs → AllZip (Matches original level) xs ys
     → last_of own (upto m xs) ≡ Some t → Matches original m (moved_to (Some t) x) y
 entry_moved original level m own x y xs ys t entry of_own within matched behind rising pairs is = elim matched [

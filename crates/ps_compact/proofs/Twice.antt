@@ -8,7 +8,7 @@ use Rattle.ps_data.specs.declared.ids.OpId.{OpId}
 use Rattle.ps_bucket_log.specs.declared.ops.Key.{Key}
 use Rattle.ps_bucket_log.specs.declared.ops.Op.{Op}
 use Rattle.ps_bucket_log.specs.declared.ops.Op.TheVariants.{Put, Remove, Move, Clear}
-use Rattle.ps_bucket_log.specs.Ops.{id_of, is_put, is_of, same_key, upto, past, place_after}
+use Rattle.ps_bucket_log.specs.Ops.{id_of, is_put, is_of_key, same_key, upto, past, place_after}
 use Rattle.ps_compact.specs.Compaction.{first_id, own_id, last_of, target_behind, moved_to, moved, front_count, clear_for, with_clear, compacted}
 use Rattle.ps_compact.proofs.Keys.{same_key-true}
 use Rattle.ps_compact.proofs.Kept.{id_of-moved_to}
@@ -83,14 +83,14 @@ past-parts level front log low =
 -- what is moved has the last ids that it had
 
 own_id-moved : (target : Option OpId) (key own : Key) (op : Op) (before : Option OpId) → (same_key key own ≡ true → target ≡ before) → before ≡ None
-    → is_of key op ≡ same_key key own → own_id key (moved_to target op) ≡ own_id key op
+    → is_of_key key op ≡ same_key key own → own_id key (moved_to target op) ≡ own_id key op
 own_id-moved None key own op before same none is = refl
 own_id-moved (Some target) key own op before same none is = elim (cases_Bool (same_key key own)) [
   | inl mine ↦ let clash : Some target ≡ None = same mine ∙ none in cc
-  | inr other ↦ let apart : is_of key op ≡ false = is ∙ other in sym (ap (λ (b : Bool). cond b (Some (record { 0 = id_of op })) None) apart)
+  | inr other ↦ let apart : is_of_key key op ≡ false = is ∙ other in sym (ap (λ (b : Bool). cond b (Some (record { 0 = id_of op })) None) apart)
 ]
 
-last_of-step : (key own : Key) (op : Op) (ops : List Op) → is_of key op ≡ same_key key own → (found : Option OpId) → last_of key ops ≡ found
+last_of-step : (key own : Key) (op : Op) (ops : List Op) → is_of_key key op ≡ same_key key own → (found : Option OpId) → last_of key ops ≡ found
     → first_id found (own_id key (moved_to (last_of own ops) op)) ≡ first_id found (own_id key op)
 last_of-step key own op ops is (Some id) at = refl
 last_of-step key own op ops is None at =

@@ -4,7 +4,7 @@ use Rattle.ps_data.specs.declared.ids.OpId.{OpId}
 use Rattle.ps_bucket_log.specs.declared.ops.Key.{Key}
 use Rattle.ps_bucket_log.specs.declared.ops.Op.{Op}
 use Rattle.ps_bucket_log.specs.declared.ops.Op.TheVariants.{Put, Remove, Move, Clear}
-use Rattle.ps_bucket_log.specs.Ops.{id_of, checksum, is_put, is_of, upto, past, newest, sum_of, greatest_target}
+use Rattle.ps_bucket_log.specs.Ops.{id_of, checksum, is_put, is_of_key, upto, past, newest, sum_of, greatest_target}
 use Rattle.ps_compact.specs.declared.reports.Report.{Report}
 
 -- the first of two ids that is there
@@ -14,7 +14,7 @@ first_id (Some a) b = Some a
 
 -- the id of an operation that is a PUT or a REMOVE of the key
 abbrev pub own_id : Key → Op → Option OpId
-own_id key op = if is_of key op then Some (record { 0 = id_of op }) else None
+own_id key op = if is_of_key key op then Some (record { 0 = id_of op }) else None
 
 -- the id of the last PUT or REMOVE of a key
 abbrev pub last_of : Key → List Op → Option OpId

@@ -2,12 +2,6 @@
 
 ghost use Rattle.ps_compact.specs.Laws.{CompactedIsLog, TwiceIsOnce, CompactedStands, KeepsSums, KeepsHonest, KeepsHonestUpTo, MakesWhole};
 
-use ps_bucket_log::{
-    batches_keep_readers_honest, honest_readers_stay_honest, readers_are_whole_at_the_newest,
-    readers_stand_at_the_last_id, standing_logs_have_the_sums_of_their_originals,
-    standing_logs_stay_standing, totals_are_sums,
-};
-
 /// A law: a log that is compacted is a log.
 pub fn compacted_logs_are_logs()
     ensures { CompactedIsLog }
@@ -22,12 +16,12 @@ pub fn twice_is_once()
 pub fn compacted_logs_stand()
     ensures { CompactedStands }
 {
-    batches_keep_readers_honest();
-    honest_readers_stay_honest();
-    standing_logs_stay_standing();
-    standing_logs_have_the_sums_of_their_originals();
-    totals_are_sums();
-    readers_stand_at_the_last_id();
+    ps_bucket_log::laws::batches_keep_readers_honest();
+    ps_bucket_log::laws::honest_readers_stay_honest();
+    ps_bucket_log::laws::standing_logs_stay_standing();
+    ps_bucket_log::laws::standing_logs_have_the_sums_of_their_originals();
+    ps_bucket_log::laws::totals_are_sums();
+    ps_bucket_log::laws::readers_stand_at_the_last_id();
 }
 
 /// A law: from the level on, a compacted log has the sums and the newest ids of its original.
@@ -35,8 +29,8 @@ pub fn compacted_logs_keep_sums()
     ensures { KeepsSums }
 {
     compacted_logs_stand();
-    standing_logs_stay_standing();
-    standing_logs_have_the_sums_of_their_originals();
+    ps_bucket_log::laws::standing_logs_stay_standing();
+    ps_bucket_log::laws::standing_logs_have_the_sums_of_their_originals();
 }
 
 /// A law: a batch that is read after compaction keeps an honest reader honest, from wherever it is read; a reader that is honest up
@@ -48,6 +42,6 @@ pub fn compacted_logs_keep_readers_honest()
     ensures whole { MakesWhole }
 {
     compacted_logs_stand();
-    batches_keep_readers_honest();
-    readers_are_whole_at_the_newest();
+    ps_bucket_log::laws::batches_keep_readers_honest();
+    ps_bucket_log::laws::readers_are_whole_at_the_newest();
 }

@@ -4,13 +4,9 @@
 
 mod compaction;
 mod fronts;
-mod laws;
+pub mod laws;
 mod reports;
 mod targets;
 
 pub use compaction::compact;
-pub use laws::{
-    compacted_logs_are_logs, compacted_logs_keep_readers_honest, compacted_logs_keep_sums,
-    compacted_logs_stand, twice_is_once,
-};
 pub use reports::Report;

@@ -4,7 +4,7 @@ use mathlib.Core.List.{IsPrefix}
 use Rattle.ps_io.specs.Sources.{Input, unread}
 use Rattle.ps_io.specs.declared.outputs.Sink as Sink
 use Rattle.ps_io.specs.declared.sources.Source as Source
-use Rattle.ps_doors.specs.Connections.{Connection, fresh, told_by}
+use Rattle.ps_doors.specs.Connections.{Connection, fresh_connection, told_by}
 use Rattle.ps_store.specs.declared.events.Event.{Event}
 use Rattle.ps_store.specs.declared.fixed.Fixed.{Fixed}
 use Rattle.ps_streams.specs.Serving.{IsValid}
@@ -54,7 +54,7 @@ unread_of input given ended =
     ap (λ (w : List ℕ). Some (record { left = input.left; given = w; ended = input.ended })) given
     ∙ ap (λ (w : Bool). Some (record { left = input.left; given = []; ended = w })) ended
 
-unused_of : (n number read write : ℕ) (input : Option Input) (taken : Option (List ℕ)) → told_by number input read taken write ≡ Some (fresh n) → IsUnused input read taken write
+unused_of : (n number read write : ℕ) (input : Option Input) (taken : Option (List ℕ)) → told_by number input read taken write ≡ Some (fresh_connection n) → IsUnused input read taken write
 unused_of n number read write None taken is = cc
 unused_of n number read write (Some input) None is = cc
 unused_of n number read write (Some input) (Some taken) is = record {
@@ -86,7 +86,7 @@ module _ (fixed : Fixed) (site : Site) (may_give : ℕ → Type 0) (low : ℕ) (
 
   -- the connection of ends that were new is answered
   pub answered_of : (n number number' read read' write write' : ℕ) (input input' : Option Input) (taken taken' : Option (List ℕ)) (one : Connection)
-      → told_by number input read taken write ≡ Some (fresh n) → Stays input input' read read' taken taken' write write'
+      → told_by number input read taken write ≡ Some (fresh_connection n) → Stays input input' read read' taken taken' write write'
       → told_by number' input' read' taken' write' ≡ Some one → StaysAnswered fixed site may_give low seen one (record { end = outcome.end; own = own })
   answered_of n number number' read read' write write' input None taken taken' one new stays is = cc
   answered_of n number number' read read' write write' input (Some left) taken None one new stays is = cc

@@ -6,7 +6,7 @@ use Rattle.std.proofs.lemmas.Grind.{flat_map-append}
 use Rattle.std.proofs.lemmas.List.{append-nil, map-append}
 use Rattle.std.proofs.lemmas.List.Folds.{list_any-append}
 use Rattle.std.specs.List.{list_any, flat_map}
-use Rattle.ps_doors.specs.Connections.{Connection, numbers_of, Lacks, with_closed}
+use Rattle.ps_doors.specs.Connections.{Connection, connection_numbers, Lacks, with_closed}
 use Rattle.ps_store.specs.declared.events.Event.{Event}
 use Rattle.ps_connections.specs.Answers.{Upshot, is_out_of_memory, AreServed, HasServed, HaveServed}
 
@@ -19,14 +19,14 @@ own_of came = came.own
 -- ---- numbers
 
 numbers_differ : (IsSo : Connection → Upshot → Type 0) (number first : ℕ) (more : List Connection) (upshots : List Upshot)
-    → AreServed IsSo first more upshots → first + length more ≤ number → list_any (nat_eq number) (numbers_of more) ≡ false
+    → AreServed IsSo first more upshots → first + length more ≤ number → list_any (nat_eq number) (connection_numbers more) ≡ false
 numbers_differ IsSo number first [] [] served le = refl
 numbers_differ IsSo number first [] (came ∷ upshots) served le = absurd served
 numbers_differ IsSo number first (one ∷ more) [] served le = absurd served
 numbers_differ IsSo number first (one ∷ more) (came ∷ upshots) served le =
     let other : nat_eq number one.number ≡ false = ne_eqb number one.number (λ same. let is = served.0 in omega arith) in
     let rest = numbers_differ IsSo number (first + 1) more upshots served.2 (omega (arith, le)) in
-    ap (λ b. b || list_any (nat_eq number) (numbers_of more)) other ∙ rest
+    ap (λ b. b || list_any (nat_eq number) (connection_numbers more)) other ∙ rest
 
 lacks_served : (IsSo : Connection → Upshot → Type 0) (first count : ℕ) (before now : List Connection) (short : Bool) (own own' : List (Event × ℕ))
     → HasServed IsSo first before now count short own own' → Lacks (first + count) before → Lacks (first + count) now
@@ -35,8 +35,8 @@ lacks_served IsSo first count before now short own own' s lacks =
     let P : List Connection → Type 0 = λ w. Lacks n w in
     let differ = numbers_differ IsSo n first s.more s.upshots s.served (let is = s.count_is in omega arith) in
     let both : Lacks n (before ++ s.more) = ap (list_any (nat_eq n)) (map-append (λ (c : Connection). c.number) before s.more)
-    ∙ list_any-append (nat_eq n) (numbers_of before) (numbers_of s.more)
-    ∙ ap (λ b. b || list_any (nat_eq n) (numbers_of s.more)) lacks ∙ differ in
+    ∙ list_any-append (nat_eq n) (connection_numbers before) (connection_numbers s.more)
+    ∙ ap (λ b. b || list_any (nat_eq n) (connection_numbers s.more)) lacks ∙ differ in
     subst P (sym s.closed) both
 
 -- the next connection is not closed yet

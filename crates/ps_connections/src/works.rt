@@ -11,7 +11,7 @@ use crate::hearing::Hears;
 use crate::services::Service;
 use ps_io::{Clock, Sink, Source};
 use ps_lock::{Seat, StoreLock};
-use ps_serve::{End, Site, answer_connection, answers_stay};
+use ps_serve::{End, Site, answer_connection};
 use ps_workers::SharedStore;
 use std::snapshot::Snapshot;
 use std::sync::{Mutex, Wait};
@@ -143,7 +143,7 @@ pub(crate) fn work<R: Wait + time::Clock + Hears, S: Source, K: Sink, C: Clock>(
         service.clock,
         &mut bell,
     );
-    answers_stay(service.clock);
+    ps_serve::laws::answers_stay(service.clock);
     from.end();
     to.end();
     let end = outcome.end;

@@ -28,7 +28,7 @@ use Rattle.ps_core.specs.declared.effects.Effect.TheVariants as effects
 use Rattle.ps_core.specs.declared.readers.Reader.{Reader}
 use Rattle.ps_core.specs.declared.readers.Sent.{Sent}
 use Rattle.ps_core.specs.declared.readers.Stream.{Stream}
-use Rattle.ps_core.specs.Parts.{CameTo, IsAt}
+use Rattle.ps_core.specs.Parts.{CameTo, IsClientNamed}
 use Rattle.ps_core.specs.Plays.{Play}
 use Rattle.ps_core.specs.Plays as plays
 use Rattle.ps_core.specs.PlaySteps.{AltersOn, dataless, unknown_or_dataless}
@@ -226,7 +226,7 @@ pub may_not_alter : (play : Play) (name : List ℕ) (reader : plays.Reader) (at 
 may_not_alter play name reader at session waiting named link_is none =
     ap unknown_or_dataless named ∙ ap dataless link_is ∙ ap (λ (b : Bool). if b then None else Some WrongPhase) none
 
-pub altered_so : (fixed : Fixed) (play : Play) (name : List ℕ) (store : Store) (old new : Reader) (stream now : Stream) → (it : IsAt fixed play name store old) → old.stream ≡ Some stream
+pub altered_so : (fixed : Fixed) (play : Play) (name : List ℕ) (store : Store) (old new : Reader) (stream now : Stream) → (it : IsClientNamed fixed play name store old) → old.stream ≡ Some stream
     → ((made : List Made) → AreWaiting stream.waiting.items made → (has_data made ≡ true) × AreWaiting now.waiting.items (altered_oldest made)) → now.session ≡ stream.session
     → new.asker ≡ old.asker → state new.client ≡ state old.client → new.stream ≡ Some now → CameTo fixed play (scripts.Alter name) name store new effects.Altered
 altered_so fixed play name store old new stream now it some alters session asker client now_is =

@@ -23,7 +23,7 @@ use Rattle.ps_client.specs.Clients.{PlainClient, Took, applied, comes_next, comp
 use Rattle.ps_client.specs.Keepers.{RoseAtFault}
 use Rattle.ps_client.specs.States.{state}
 use Rattle.ps_client.specs.Tables.{is_told, differing}
-use Rattle.ps_client.specs.Taking.{Answers, IsFault, IsTaken, Rows, showing}
+use Rattle.ps_client.specs.Taking.{AnswersLine, IsFault, LineIsTaken, Rows, showing}
 use Rattle.ps_script.specs.declared.events.ScriptEvent.TheVariants as scripts
 use Rattle.ps_queries.specs.declared.askers.Asker.{Asker}
 use Rattle.ps_store.specs.declared.events.Event.{Event as StoreEvent}
@@ -37,15 +37,15 @@ use Rattle.ps_session.specs.Sessions.{SessionState}
 use Rattle.ps_core.specs.declared.effects.Effect.TheVariants as effects
 use Rattle.ps_core.specs.Plays.{Play, Outcome, says}
 use Rattle.ps_core.specs.Plays as plays
-use Rattle.ps_core.specs.ReaderEvents.{ShowsAfter, TakesLine, link_after_answer, took_effect, took_outcome}
+use Rattle.ps_core.specs.ReaderEvents.{ShowsAfter, TakesWaitingLine, link_after_answer, took_effect, took_outcome}
 use Rattle.ps_core.specs.PlaySteps.{TakesOn}
 use Rattle.ps_core.specs.declared.readers.Reader.{Reader}
 use Rattle.ps_core.specs.declared.readers.Sent.{Sent}
 use Rattle.ps_core.specs.declared.readers.Stream.{Stream}
 use Rattle.ps_core.specs.declared.taking.Answer.{Answer}
-use Rattle.ps_core.specs.Answers.{CanFault, IsAnswered, IsRefusing, ends, refused_by, said_by}
+use Rattle.ps_core.specs.Answers.{CanFault, LineIsAnswered, IsRefusing, ends, refused_by, said_by}
 use Rattle.ps_core.specs.Texts.{IsPrintable}
-use Rattle.ps_core.specs.Parts.{CameTo, IsAt}
+use Rattle.ps_core.specs.Parts.{CameTo, IsClientNamed}
 use Rattle.ps_core.specs.Worlds.{AreWaiting, LinkStandsFor, StreamStandsFor}
 use Rattle.ps_core.proofs.Visited.{HasLink, became, said_to, streams_so}
 use Rattle.ps_core.proofs.StreamSteps.{known, streaming}
@@ -96,10 +96,10 @@ fault_ends client line fault is = ends_in client.stream client.kept line fault i
 
 -- ---- answers
 
-pub event_answered : (old new : PlainClient) (line : Line) (bytes : List ℕ) (event : Event) (answer : Answer) → line_of bytes ≡ Ok line → Answers (line_taken old bytes) old new (Ok event)
-    → answer ≡ said_by event → IsAnswered old new line answer
+pub event_answered : (old new : PlainClient) (line : Line) (bytes : List ℕ) (event : Event) (answer : Answer) → line_of bytes ≡ Ok line → AnswersLine (line_taken old bytes) old new (Ok event)
+    → answer ≡ said_by event → LineIsAnswered old new line answer
 event_answered old new line bytes event answer is answers answer_is =
-    let it : IsTaken (taken old line) old.kept event new = subst (λ (read : Result Line LineFault). Answers (taken_if old read) old new (Ok event)) is answers in
+    let it : LineIsTaken (taken old line) old.kept event new = subst (λ (read : Result Line LineFault). AnswersLine (taken_if old read) old new (Ok event)) is answers in
     record {
       effect_is = ap took_effect it.answer ∙ ap (λ (a : Answer). a.effect) (sym answer_is);
       over_is = ap ends it.answer ∙ ap (λ (a : Answer). a.over) (sym answer_is);
@@ -123,10 +123,10 @@ can_fault took faults.QueueEmpty is rose = is
 can_fault took (faults.QueueWaiting length) is rose = is
 can_fault took faults.Memory is rose = tt
 
-pub fault_answered : (old new : PlainClient) (line : Line) (bytes : List ℕ) (fault : ClientFault) (answer : Answer) → line_of bytes ≡ Ok line → Answers (line_taken old bytes) old new (Err fault)
-    → IsRefusing fault → new ≡ ended old → answer ≡ refused_by fault → IsAnswered old new line answer
+pub fault_answered : (old new : PlainClient) (line : Line) (bytes : List ℕ) (fault : ClientFault) (answer : Answer) → line_of bytes ≡ Ok line → AnswersLine (line_taken old bytes) old new (Err fault)
+    → IsRefusing fault → new ≡ ended old → answer ≡ refused_by fault → LineIsAnswered old new line answer
 fault_answered old new line bytes fault answer is answers refusing new_is answer_is =
-    let own : IsFault (taken old line) fault = subst (λ (read : Result Line LineFault). Answers (taken_if old read) old new (Err fault)) is answers in
+    let own : IsFault (taken old line) fault = subst (λ (read : Result Line LineFault). AnswersLine (taken_if old read) old new (Err fault)) is answers in
     let says : (taken old line).answer ≡ Err fault = fault_is (taken old line) fault refusing own in
     record {
       effect_is = ap took_effect says ∙ ap (λ (a : Answer). a.effect) (sym answer_is);
@@ -198,14 +198,14 @@ popped_stands fixed history asker old new at session waiting others it same are 
   waiting_are = are;
 }
 
-module _ (fixed : Fixed) (play : Play) (name : List ℕ) (store : Store) (old : Reader) (stream : Stream) (it : IsAt fixed play name store old) (some : old.stream ≡ Some stream) where
+module _ (fixed : Fixed) (play : Play) (name : List ℕ) (store : Store) (old : Reader) (stream : Stream) (it : IsClientNamed fixed play name store old) (some : old.stream ≡ Some stream) where
   abbrev link : HasLink fixed play.history it.reader.asker stream it.reader.link
   link = streams_so fixed play.history it.reader.asker old.stream stream it.reader.link some it.stands.link_is
 
-  takes_on : (waiting : List Made) (outcome : Outcome) → link.waiting ≡ waiting → TakesLine link.at link.session waiting name play it.reader outcome → TakesOn it.reader.link name play it.reader outcome
+  takes_on : (waiting : List Made) (outcome : Outcome) → link.waiting ≡ waiting → TakesWaitingLine link.at link.session waiting name play it.reader outcome → TakesOn it.reader.link name play it.reader outcome
   takes_on waiting outcome are takes =
       subst (λ (l : Link). TakesOn l name play it.reader outcome) (sym link.link_is)
-      (subst (λ (w : List Made). TakesLine link.at link.session w name play it.reader outcome) (sym are) takes)
+      (subst (λ (w : List Made). TakesWaitingLine link.at link.session w name play it.reader outcome) (sym are) takes)
 
   pub no_line_so : (new : Reader) (now : Stream) → stream.waiting.items ≡ [] → now.waiting.items ≡ [] → now.session ≡ stream.session → new.asker ≡ old.asker → state new.client ≡ state old.client
       → new.stream ≡ Some now → CameTo fixed play (scripts.Take name) name store new effects.NoLine
@@ -233,14 +233,14 @@ module _ (fixed : Fixed) (play : Play) (name : List ℕ) (store : Store) (old : 
     pub read : line_of sent.bytes.items ≡ Ok (without_targets first.oldest.line)
     read = first.read
 
-    took_so : (new : Reader) (answer : Answer) → IsAnswered (state old.client) (state new.client) (without_targets first.oldest.line) answer → new.asker ≡ old.asker
+    took_so : (new : Reader) (answer : Answer) → LineIsAnswered (state old.client) (state new.client) (without_targets first.oldest.line) answer → new.asker ≡ old.asker
         → LinkStandsFor fixed play.history it.reader.asker new.stream
         (link_after_answer (taken it.reader.client (without_targets first.oldest.line)).answer (Streaming link.at link.session first.others))
         → CameTo fixed play (scripts.Take name) name store new answer.effect
     took_so new answer has asker link_stands =
         let line : Line = without_targets first.oldest.line in
         let rows : Rows = (state new.client).kept.shown in
-        let mine : IsAnswered it.reader.client (state new.client) line answer = subst (λ (c : PlainClient). IsAnswered c (state new.client) line answer) it.stands.client_is has in
+        let mine : LineIsAnswered it.reader.client (state new.client) line answer = subst (λ (c : PlainClient). LineIsAnswered c (state new.client) line answer) it.stands.client_is has in
         let took : Took = taken it.reader.client line in
         let now : Link = Streaming link.at link.session first.others in
         let next : plays.Reader = record it.reader { client = showing rows took.client; link = link_after_answer took.answer now } in
@@ -252,12 +252,12 @@ module _ (fixed : Fixed) (play : Play) (name : List ℕ) (store : Store) (old : 
         it.serves
         (record { asker_is = asker ∙ it.stands.asker_is; client_is = mine.client_is; link_is = link_stands })
 
-    ends_is : (new : Reader) (answer : Answer) (over : Bool) → IsAnswered (state old.client) (state new.client) (without_targets first.oldest.line) answer → answer.over ≡ over
+    ends_is : (new : Reader) (answer : Answer) (over : Bool) → LineIsAnswered (state old.client) (state new.client) (without_targets first.oldest.line) answer → answer.over ≡ over
         → ends (taken it.reader.client (without_targets first.oldest.line)).answer ≡ over
     ends_is new answer over has is =
         ap (λ (c : PlainClient). ends (taken c (without_targets first.oldest.line)).answer) (sym it.stands.client_is) ∙ has.over_is ∙ is
 
-    pub took_on : (new : Reader) (now : Stream) (answer : Answer) → IsAnswered (state old.client) (state new.client) (without_targets first.oldest.line) answer → answer.over ≡ false
+    pub took_on : (new : Reader) (now : Stream) (answer : Answer) → LineIsAnswered (state old.client) (state new.client) (without_targets first.oldest.line) answer → answer.over ≡ false
         → new.asker ≡ old.asker → now.session ≡ stream.session → now.waiting.items ≡ rest → new.stream ≡ Some now → CameTo fixed play (scripts.Take name) name store new answer.effect
     took_on new now answer has on asker session rest_is now_is =
         took_so new answer has asker
@@ -266,7 +266,7 @@ module _ (fixed : Fixed) (play : Play) (name : List ℕ) (store : Store) (old : 
         (popped_stands fixed play.history it.reader.asker stream now link.at link.session link.waiting first.others link.stands session
         (subst (λ (ls : List Sent). AreWaiting ls first.others) (sym rest_is) first.rest_are))))
 
-    pub took_last : (new : Reader) (answer : Answer) → IsAnswered (state old.client) (state new.client) (without_targets first.oldest.line) answer → answer.over ≡ true
+    pub took_last : (new : Reader) (answer : Answer) → LineIsAnswered (state old.client) (state new.client) (without_targets first.oldest.line) answer → answer.over ≡ true
         → new.asker ≡ old.asker → new.stream ≡ None → CameTo fixed play (scripts.Take name) name store new answer.effect
     took_last new answer has over asker gone =
         took_so new answer has asker
@@ -275,7 +275,7 @@ module _ (fixed : Fixed) (play : Play) (name : List ℕ) (store : Store) (old : 
 
 -- ---- rows
 
-pub rows_so : (fixed : Fixed) (play : Play) (name : List ℕ) (store : Store) (own : Reader) (rows : List Shown) → IsAt fixed play name store own → AreListed (state own.client).kept.shown rows
+pub rows_so : (fixed : Fixed) (play : Play) (name : List ℕ) (store : Store) (own : Reader) (rows : List Shown) → IsClientNamed fixed play name store own → AreListed (state own.client).kept.shown rows
     → CameTo fixed play (scripts.Rows name) name store own (effects.Rows rows)
 rows_so fixed play name store own rows it listed =
     said_to fixed play (scripts.Rows name) name store own (effects.Rows rows) (effects.Rows rows) refl tt it.reader it.named

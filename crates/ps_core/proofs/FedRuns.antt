@@ -12,7 +12,7 @@ use Rattle.ps_core.specs.declared.effects.Effect.TheVariants.{Fed}
 use Rattle.ps_core.specs.Plays.{Play, Outcome}
 use Rattle.ps_core.specs.StoreEvents.{fed_or, fed_outcome, feeding, feeds}
 use Rattle.ps_core.specs.Texts.{IsPrintable}
-use Rattle.ps_core.specs.Feeding.{Ends, FedAll, FedFirst, FeedsAll, IsLeft}
+use Rattle.ps_core.specs.Feeding.{EndsFeeding, FedAll, FedFirst, FeedsAll, IsLeft}
 use Rattle.ps_core.specs.Scripts.{AreLow}
 
 -- so many were fed, and to feed those that are due from here gives what feeding all gives
@@ -79,7 +79,7 @@ going_full fixed play most count store left full low going =
     (ap (λ (n : ℕ). feeding fixed.rules count (play.history ++ going.more) (take n left) (drop n left) play) (sym none) ∙ going.same) tt going.stands low
 
 -- or the next one may not be fed
-stops : (fixed : Fixed) (play : Play) (history : List Event) (count k : ℕ) (left : List Transaction) (effect : Effect) → Ends fixed history count left effect
+stops : (fixed : Fixed) (play : Play) (history : List Event) (count k : ℕ) (left : List Transaction) (effect : Effect) → EndsFeeding fixed history count left effect
     → fed_outcome effect history left play ≡ feeding fixed.rules count history (take (suc k) left) (drop (suc k) left) play
 stops fixed play history count k [] effect is = ap (λ (e : Effect). fed_outcome e history [] play) is
 stops fixed play history count k (t ∷ ts) effect is =

@@ -20,7 +20,7 @@ use Rattle.ps_core.specs.declared.effects.Effect.{Effect}
 use Rattle.ps_core.specs.declared.effects.Effect.TheVariants as effects
 use Rattle.ps_core.specs.Plays.{Play, Reader, Outcome, ledger}
 use Rattle.ps_core.specs.PlayHeadline.{UnalteredAreLed, IsLed}
-use Rattle.ps_core.specs.StoreEvents.{feed_refusal, fed_or, feeding, feeds, closes, unwritten_effect, written_run, writes, commits_over, commits, compacts_over, compacts, tells_totals, deploys_over, deploys, DeploysNext, unbuilt_effect, built_run, builds_over, builds, switches_over, switches, abandons_over, abandons}
+use Rattle.ps_core.specs.StoreEvents.{feed_refusal, fed_or, feeding, feeds, closes, unwritten_effect, written_run, writes_run, commits_over, commits, compacts_over, compacts, tells_totals, deploys_over, deploys, DeploysNext, unbuilt_effect, built_run, builds_over, builds, switches_over, switches, abandons_over, abandons}
 use Rattle.ps_core.proofs.Grounds.{Under}
 use Rattle.ps_core.proofs.Leading.{led_grown}
 use Rattle.ps_core.proofs.Saying.{IsCalm}
@@ -88,7 +88,7 @@ run_grown run limits l play = elim (cases_Bool (nat_le 1 run.count)) [
   | inr none ↦ rw none (still play (unwritten_effect limits l (unwritten l)) (unwritten_calm limits l (unwritten l)))
 ]
 
-pub writes_grown : (fixed : Fixed) (limit : ℕ) (play : Play) → IsGrown play.history play.readers (writes fixed limit play)
+pub writes_grown : (fixed : Fixed) (limit : ℕ) (play : Play) → IsGrown play.history play.readers (writes_run fixed limit play)
 writes_grown fixed limit play = run_grown (next_run fixed play.history limit) fixed.limits (ledger fixed play) play
 
 commits_over_grown : (l : Ledger) (play : Play) → IsGrown play.history play.readers (commits_over l play)

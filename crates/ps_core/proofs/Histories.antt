@@ -6,7 +6,7 @@ use Rattle.ps_queries.specs.declared.askers.Asker.{Asker}
 use Rattle.ps_store.specs.declared.events.Event.{Event}
 use Rattle.ps_store.specs.declared.fixed.Fixed.{Fixed}
 use Rattle.ps_store.specs.CourseLaws.{PlacesStay}
-use Rattle.ps_store.specs.Ledgers.{Ledger, CanCome, IsLegal, IsLegalFrom, fresh, ledger_after, ledger_of}
+use Rattle.ps_store.specs.Ledgers.{Ledger, CanCome, IsLegal, IsLegalFrom, fresh_ledger, ledger_after, ledger_of}
 use Rattle.ps_store.specs.Readings.{take_of}
 use Rattle.ps_streams.specs.Lives.{Link, Idle, Streaming}
 use Rattle.ps_streams.specs.Runs.{Made}
@@ -25,7 +25,7 @@ last_came [] l event legal = legal.0
 last_came (e ∷ es) l event legal = last_came es (ledger_after l e) event legal.1
 
 pub could_come : (rules : RuleSet) (front : List Event) (event : Event) → IsLegal rules (front ++ event ∷ []) → CanCome (ledger_of rules front) event
-could_come rules front event legal = last_came front (fresh rules) event legal
+could_come rules front event legal = last_came front (fresh_ledger rules) event legal
 
 -- ---- a longer history
 

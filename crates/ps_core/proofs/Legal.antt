@@ -12,8 +12,8 @@ use Rattle.ps_store.specs.declared.events.Event.TheVariants as events
 use Rattle.ps_store.specs.declared.fixed.Fixed.{Fixed}
 use Rattle.ps_store.specs.declared.fixed.Limits.{Limits}
 use Rattle.ps_store.specs.Deploys.{as_force, run_of}
-use Rattle.ps_store.specs.Generations.{Coming, Lane, is_of, lane_next, queue_in, step_lane}
-use Rattle.ps_store.specs.Ledgers.{Ledger, CanCome, IsLegal, IsLegalFrom, build_next, build_with, entries_after, force_ops, fresh, head_of, last_number, ledger_after, ledger_of, next_ops, taken_by, unwritten, write_next}
+use Rattle.ps_store.specs.Generations.{Coming, Lane, is_of_generation, lane_next, queue_in, step_lane}
+use Rattle.ps_store.specs.Ledgers.{Ledger, CanCome, IsLegal, IsLegalFrom, build_next, build_with, entries_after, force_ops, fresh_ledger, head_of, last_number, ledger_after, ledger_of, next_ops, taken_by, unwritten, write_next}
 use Rattle.ps_store.specs.Limits.{AreWithin, greatest}
 use Rattle.ps_store.specs.declared.entered.Entered.{Entered}
 use Rattle.ps_store.specs.Originals.{Timed, in_bucket}
@@ -27,8 +27,8 @@ use Rattle.ps_script.specs.declared.events.ScriptEvent.{ScriptEvent}
 use Rattle.ps_script.specs.declared.events.ScriptEvent.TheVariants.{Feed, Close, Write, Commit, Compact, Client, Open, Turn, Take, Cut, Alter, Local, Upload, Number, Rows, Totals, Deploy, Build, Switch, Abandon}
 use Rattle.ps_core.specs.Plays.{Play, Reader, Outcome, course, ledger, place}
 use Rattle.ps_core.specs.StoreEvents.{DeploysNext, abandons_over, builds_over, built_run, commits_over, compacts_over, deploys_over, fed_or, feed_refusal, feeding, switches_over, written_run}
-use Rattle.ps_core.specs.ReaderEvents.{TakesLine, numbers_for, takes_in, turn_outcome, uploads_from}
-use Rattle.ps_core.specs.PlaySteps.{AltersOn, Gives, NumbersAs, TakesOn, TurnsOn}
+use Rattle.ps_core.specs.ReaderEvents.{TakesWaitingLine, numbers_for, takes_in, turn_outcome, uploads_from}
+use Rattle.ps_core.specs.PlaySteps.{AltersOn, GivesOutcome, NumbersAs, TakesOn, TurnsOn}
 use Rattle.ps_core.specs.Scripts.{AreLow, AreNext, PlaysStayLegal}
 
 abbrev IsLow : Transaction → Type 0
@@ -46,7 +46,7 @@ legal_on [] l event legal can = (can, tt)
 legal_on (e ∷ history) l event legal can = (legal.0, legal_on history (ledger_after l e) event legal.1 can)
 
 came : (rules : RuleSet) (history : List Event) (event : Event) → IsLegal rules history → CanCome (ledger_of rules history) event → IsLegal rules (history ++ event ∷ [])
-came rules history event legal can = legal_on history (fresh rules) event legal can
+came rules history event legal can = legal_on history (fresh_ledger rules) event legal can
 
 -- ---- feeding
 
@@ -296,7 +296,7 @@ turns_sound (Streaming at session waiting) fixed name play reader outcome sound 
     (turn_sound (takes_in session.phase && nat_lt fixed.limits.buckets (length ((course fixed play.history reader.asker).take (place play)).buckets)) fixed at session waiting name play reader sound)
 
 takes_sound : (waiting : List Made) (rules : RuleSet) (at : ℕ) (session : SessionState) (name : List ℕ) (play : Play) (reader : Reader) (outcome : Outcome) → IsSound rules play
-    → TakesLine at session waiting name play reader outcome → IsSound rules outcome.play
+    → TakesWaitingLine at session waiting name play reader outcome → IsSound rules outcome.play
 takes_sound [] rules at session name play reader outcome sound takes = subst (λ (o : Outcome). IsSound rules o.play) (sym takes) (record { legal = sound.legal; low = sound.low; next = sound.next })
 takes_sound (m ∷ ms) rules at session name play reader outcome sound takes = subst (λ (o : Outcome). IsSound rules o.play) (sym takes.2) (record { legal = sound.legal; low = sound.low; next = sound.next })
 
@@ -325,7 +325,7 @@ number_sound (Some client) fixed name play reader outcome within sound numbers =
 along : (rules : RuleSet) (outcome given : Outcome) → outcome ≡ given → IsSound rules given.play → IsSound rules outcome.play
 along rules outcome given is sound = subst (λ (o : Outcome). IsSound rules o.play) (sym is) sound
 
-pub event_sound : (event : ScriptEvent) (fixed : Fixed) (play : Play) (outcome : Outcome) → AreWithin fixed.limits → IsSound fixed.rules play → Gives fixed play event outcome
+pub event_sound : (event : ScriptEvent) (fixed : Fixed) (play : Play) (outcome : Outcome) → AreWithin fixed.limits → IsSound fixed.rules play → GivesOutcome fixed play event outcome
     → IsSound fixed.rules outcome.play
 event_sound (Feed count) fixed play outcome within sound gives =
     along fixed.rules outcome (feeding fixed.rules 0 play.history (take count play.left) (drop count play.left) play) gives
@@ -346,7 +346,7 @@ event_sound (Compact bucket) fixed play outcome within sound gives =
     let ops = force_ops l bucket in
     along fixed.rules outcome (compacts_over ops l bucket play) gives
     (compacts_sound ops l bucket fixed.rules play
-    (λ (can : ops ≢ []). came fixed.rules play.history (events.Compact bucket) sound.legal (own_bucket (is_of l.force.number bucket) (in_bucket bucket l.entered) can)) sound)
+    (λ (can : ops ≢ []). came fixed.rules play.history (events.Compact bucket) sound.legal (own_bucket (is_of_generation l.force.number bucket) (in_bucket bucket l.entered) can)) sound)
 event_sound (Client name asker) fixed play outcome within sound gives = subst (λ (o : Outcome). IsSound fixed.rules o.play) (sym gives) (record { legal = sound.legal; low = sound.low; next = sound.next })
 event_sound (Open name) fixed play outcome within sound gives = subst (λ (o : Outcome). IsSound fixed.rules o.play) (sym gives.2.is) (record { legal = sound.legal; low = sound.low; next = sound.next })
 event_sound (Turn name) fixed play outcome within sound gives = turns_sound gives.0.link fixed name play gives.0 outcome sound gives.2

@@ -18,7 +18,7 @@ use Rattle.ps_store.specs.declared.stores.Checkpoint.{Checkpoint}
 use Rattle.ps_store.specs.declared.stores.Store.{Store}
 use Rattle.ps_store.specs.Deploys.{Abandons, Builds, Deploys, Switches, as_force, run_in, run_of}
 use Rattle.ps_store.specs.Generations.{Coming, lane_next, queue_in}
-use Rattle.ps_store.specs.Ledgers.{Ledger, fresh, ledger_after, ledger_of}
+use Rattle.ps_store.specs.Ledgers.{Ledger, fresh_ledger, ledger_after, ledger_of}
 use Rattle.ps_store.specs.Limits.{greatest}
 use Rattle.ps_store.specs.Originals.{Timed, entries_at, key_of}
 use Rattle.ps_store.specs.Readings.{building_of}
@@ -110,7 +110,7 @@ pub built_so : (fixed : Fixed) (play : Play) (store : Store) (limit : ℕ) (buil
 built_so fixed play store limit built some few it =
     let l = ledger fixed play in
     let n : ℕ = built.changes in
-    let after : ledger_of fixed.rules (play.history ++ events.Build n ∷ []) ≡ ledger_after l (events.Build n) = fold-append ledger_after (fresh fixed.rules) play.history (events.Build n ∷ []) in
+    let after : ledger_of fixed.rules (play.history ++ events.Build n ∷ []) ≡ ledger_after l (events.Build n) = fold-append ledger_after (fresh_ledger fixed.rules) play.history (events.Build n ∷ []) in
     let last : built.last_op.0 ≡ (ledger_after l (events.Build n)).last = it.2 ∙ ap (λ (l : Ledger). l.last) after in
     let left : built.left ≡ length (queue_in (ledger_after l (events.Build n)).building) = it.4 ∙ ap (λ (l : Ledger). length (queue_in l.building)) after in
     let ops : (ledger_after l (events.Build n)).last - l.last ≡ built.ops = omega (arith, it.3, last) in

@@ -28,9 +28,9 @@ use Rattle.ps_script.specs.declared.events.ScriptEvent.TheVariants.{Feed, Close,
 use Rattle.ps_core.specs.declared.effects.Effect.{Effect}
 use Rattle.ps_core.specs.Plays.{Play, Reader, Outcome, course, first_reader, happens, ledger, place, with_reader}
 use Rattle.ps_core.specs.PlayRuns.{AreRuns, IsRunOn, PlaysBeginRuns, PlaysStayRuns}
-use Rattle.ps_core.specs.PlaySteps.{AltersOn, Gives, NumbersAs, TakesOn, TurnsOn}
-use Rattle.ps_core.specs.ReaderEvents.{TakesLine, altered_in, becomes, cut, link_after_answer, link_after_event, next_position, numbered, numbers_for, opened, takes_in, turn_outcome, turned, uploaded_at, uploads_from, with_kept}
-use Rattle.ps_core.specs.StoreEvents.{abandons, builds, closes, commits, compacts, feeds, switches, tells_totals, writes}
+use Rattle.ps_core.specs.PlaySteps.{AltersOn, GivesOutcome, NumbersAs, TakesOn, TurnsOn}
+use Rattle.ps_core.specs.ReaderEvents.{TakesWaitingLine, altered_in, becomes, cut_stream, link_after_answer, link_after_event, next_position, aimed_unless_waiting, numbers_for, opened, takes_in, turn_outcome, stream_turned, uploaded_at, uploads_from, with_kept}
+use Rattle.ps_core.specs.StoreEvents.{abandons, builds, closes, commits, compacts, feeds, switches, tells_totals, writes_run}
 use Rattle.ps_core.proofs.Growing.{IsGrown, abandons_grown, builds_grown, closes_grown, commits_grown, compacts_grown, feeds_grown, next_grown, switches_grown, totals_grown, writes_grown}
 
 -- what runs keep, and the store's readings
@@ -105,12 +105,12 @@ module _ (ground : Ground) (fixed : Fixed) where
       → outcome ≡ turn_outcome too_many at (course fixed play.history reader.asker) (place play) session waiting name reader play
       → IsRunOn (course fixed play.history reader.asker) (place play) (Streaming at session waiting) → AreRuns fixed play → AreRuns fixed outcome.play
   turn_runs true at session waiting name play reader outcome is here runs =
-      given_runs play outcome (turn_outcome true at (course fixed play.history reader.asker) (place play) session waiting name reader play) is (with_runs name (cut reader) play tt runs)
+      given_runs play outcome (turn_outcome true at (course fixed play.history reader.asker) (place play) session waiting name reader play) is (with_runs name (cut_stream reader) play tt runs)
   turn_runs false at session waiting name play reader outcome is here runs =
       let c = course fixed play.history reader.asker in
       let n = place play in
       given_runs play outcome (turn_outcome false at c n session waiting name reader play) is
-      (with_runs name (record reader { link = turned c n at session waiting }) play (ground.turn c at n n session (omega arith) here) runs)
+      (with_runs name (record reader { link = stream_turned c n at session waiting }) play (ground.turn c at n n session (omega arith) here) runs)
 
   turns_runs : (link : Link) (name : List ℕ) (play : Play) (reader : Reader) (outcome : Outcome) → TurnsOn fixed link name play reader outcome
       → IsRunOn (course fixed play.history reader.asker) (place play) link → AreRuns fixed play → AreRuns fixed outcome.play
@@ -131,7 +131,7 @@ module _ (ground : Ground) (fixed : Fixed) where
   after_answer (Ok event) c n link here = after_event event c n link here
   after_answer (Err fault) c n link here = tt
 
-  takes_line : (at : ℕ) (session : SessionState) (waiting : List Made) (name : List ℕ) (play : Play) (reader : Reader) (outcome : Outcome) → TakesLine at session waiting name play reader outcome
+  takes_line : (at : ℕ) (session : SessionState) (waiting : List Made) (name : List ℕ) (play : Play) (reader : Reader) (outcome : Outcome) → TakesWaitingLine at session waiting name play reader outcome
       → IsRunOn (course fixed play.history reader.asker) (place play) (Streaming at session waiting) → AreRuns fixed play → AreRuns fixed outcome.play
   takes_line at session [] name play reader outcome takes here runs = subst (λ (o : Outcome). AreRuns fixed o.play) (sym takes) runs
   takes_line at session (m ∷ ms) name play reader outcome takes here runs =
@@ -171,7 +171,7 @@ module _ (ground : Ground) (fixed : Fixed) where
   numbers_runs client limits l name play reader here runs =
       let number = last_number l reader.asker.user client in
       let event : Event = events.WriteCheckpoint reader.asker.user client in
-      let own = with_kept (numbered reader.client.kept.queue (number + 1) reader.client.kept) reader in
+      let own = with_kept (aimed_unless_waiting reader.client.kept.queue (number + 1) reader.client.kept) reader in
       let all : AreRuns fixed (with_reader name own (happens event play)) =
       with_runs name own (happens event play) (runs_on reader.link play.history (event ∷ []) reader here) (happens_runs event play runs) in
       elim (cases_Bool (nat_lt number limits.numbers)) [ inl room ↦ rw room all | inr full ↦ rw full runs ]
@@ -184,10 +184,10 @@ module _ (ground : Ground) (fixed : Fixed) where
 
   -- ---- any event
 
-  comes_runs : (event : ScriptEvent) (play : Play) (outcome : Outcome) → Gives fixed play event outcome → AreRuns fixed play → AreRuns fixed outcome.play
+  comes_runs : (event : ScriptEvent) (play : Play) (outcome : Outcome) → GivesOutcome fixed play event outcome → AreRuns fixed play → AreRuns fixed outcome.play
   comes_runs (Feed count) play outcome gives runs = grown_given play outcome (feeds fixed count play) gives (feeds_grown fixed count play) runs
   comes_runs Close play outcome gives runs = grown_given play outcome (closes play) gives (closes_grown play) runs
-  comes_runs (Write limit) play outcome gives runs = grown_given play outcome (writes fixed limit play) gives (writes_grown fixed limit play) runs
+  comes_runs (Write limit) play outcome gives runs = grown_given play outcome (writes_run fixed limit play) gives (writes_grown fixed limit play) runs
   comes_runs Commit play outcome gives runs = grown_given play outcome (commits fixed play) gives (commits_grown fixed play) runs
   comes_runs (Compact bucket) play outcome gives runs = grown_given play outcome (compacts fixed bucket play) gives (compacts_grown fixed bucket play) runs
   comes_runs (Client name asker) play outcome gives runs = subst (λ (o : Outcome). AreRuns fixed o.play) (sym gives) (with_runs name (first_reader asker) play tt runs)
@@ -197,7 +197,7 @@ module _ (ground : Ground) (fixed : Fixed) where
       (with_runs name (opened gives.2.requested play reader) play (ground.begin (course fixed play.history reader.asker) (place play) gives.2.requested) runs)
   comes_runs (Turn name) play outcome gives runs = turns_runs gives.0.link name play gives.0 outcome gives.2 (runs name gives.0 gives.1) runs
   comes_runs (Take name) play outcome gives runs = takes_runs gives.0.link name play gives.0 outcome gives.2 (runs name gives.0 gives.1) runs
-  comes_runs (Cut name) play outcome gives runs = subst (λ (o : Outcome). AreRuns fixed o.play) (sym gives.2) (with_runs name (cut gives.0) play tt runs)
+  comes_runs (Cut name) play outcome gives runs = subst (λ (o : Outcome). AreRuns fixed o.play) (sym gives.2) (with_runs name (cut_stream gives.0) play tt runs)
   comes_runs (Alter name) play outcome gives runs = alters_runs gives.0.link name play gives.0 outcome gives.2 (runs name gives.0 gives.1) runs
   comes_runs (Local name change) play outcome gives runs =
       let reader : Reader = gives.0 in

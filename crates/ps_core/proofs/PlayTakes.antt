@@ -21,8 +21,8 @@ use Rattle.ps_session.specs.Sessions.{SessionState}
 use Rattle.ps_script.specs.declared.events.ScriptEvent.TheVariants.{Turn, Take}
 use Rattle.ps_core.specs.declared.effects.Effect.TheVariants as effects
 use Rattle.ps_core.specs.Plays.{Play, Reader, Outcome, course, place, says, with_reader}
-use Rattle.ps_core.specs.PlayHeadline.{IsLed, IsLedBy, IsLedAlong, UnalteredAreLed, IsRight, ShowsDue}
-use Rattle.ps_core.specs.ReaderEvents.{ShowsAfter, TakesLine, link_after_answer, took_effect, took_outcome}
+use Rattle.ps_core.specs.PlayHeadline.{IsLed, IsLedBy, IsLedAlong, UnalteredAreLed, IsRightOutcome, ShowsDue}
+use Rattle.ps_core.specs.ReaderEvents.{ShowsAfter, TakesWaitingLine, link_after_answer, took_effect, took_outcome}
 use Rattle.ps_core.specs.PlaySteps.{TakesOn}
 use Rattle.ps_core.proofs.Grounds.{Laws, Under}
 use Rattle.ps_core.proofs.Leading.{led_here, one_of, with_led, with_same}
@@ -161,7 +161,7 @@ none_shows fixed play name reader at session there link led = record { history =
 
 waiting_shows : (waiting : List Made) (fixed : Fixed) → Under fixed → (play : Play) (name : List ℕ) (reader : Reader) (at : ℕ) (session : SessionState) (outcome : Outcome)
     → IsLegal fixed.rules play.history → play.readers name ≡ Some reader → reader.link ≡ Streaming at session waiting → UnalteredAreLed fixed play
-    → TakesLine at session waiting name play reader outcome → IsTook fixed play name reader outcome
+    → TakesWaitingLine at session waiting name play reader outcome → IsTook fixed play name reader outcome
 waiting_shows [] fixed under play name reader at session outcome legal there link led takes =
     subst (λ (o : Outcome). IsTook fixed play name reader o) (sym takes) (none_shows fixed play name reader at session there link led)
 waiting_shows (m ∷ ms) fixed under play name reader at session outcome legal there link led takes =
@@ -175,7 +175,7 @@ link_shows (Streaming at session waiting) fixed under play name reader outcome l
 
 pub take_stays_led : (fixed : Fixed) → Under fixed → (play : Play) (name : List ℕ) (reader : Reader) (outcome : Outcome) → IsLegal fixed.rules play.history
     → IsLegal fixed.rules outcome.play.history → play.readers name ≡ Some reader → UnalteredAreLed fixed play → TakesOn reader.link name play reader outcome
-    → UnalteredAreLed fixed outcome.play × IsRight fixed play (Take name) outcome
+    → UnalteredAreLed fixed outcome.play × IsRightOutcome fixed play (Take name) outcome
 take_stays_led fixed under play name reader outcome legal after there led takes =
     let it = link_shows reader.link fixed under play name reader outcome legal there refl led takes in
     (it.led, says_right fixed under play (Take name) outcome after it.led (λ plain. it.calm (plain name reader refl there)) it.applies (turns_not fixed play (Take name) other))

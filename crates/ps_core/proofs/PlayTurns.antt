@@ -14,7 +14,7 @@ use Rattle.ps_bucket_log.specs.declared.takes.TakenBucket.{TakenBucket}
 use Rattle.ps_store.specs.Courses.{Course, ledger_at}
 use Rattle.ps_store.specs.CourseLaws.{IsLawful, PlacesStay}
 use Rattle.ps_store.specs.Ledgers.{Ledger, IsLegal}
-use Rattle.ps_store.specs.Readings.{AreTold, take_of, batch_of, taken_names}
+use Rattle.ps_store.specs.Readings.{AreToldBehindMark, take_of, batch_of, taken_names}
 use Rattle.ps_session.specs.declared.phases.Phase.{Phase}
 use Rattle.ps_session.specs.declared.phases.Phase.TheVariants.{Start, Download, Void, Done}
 use Rattle.ps_streams.specs.Lives.{Link, Idle, Streaming}
@@ -23,8 +23,8 @@ use Rattle.ps_session.specs.Sessions.{SessionState, Turned, behind, read, took_i
 use Rattle.ps_streams.specs.Ties.{Leads}
 use Rattle.ps_script.specs.declared.events.ScriptEvent.TheVariants.{Turn, Take}
 use Rattle.ps_core.specs.Plays.{Play, Reader, Outcome, course, place}
-use Rattle.ps_core.specs.PlayHeadline.{AreTakenBy, IsLed, IsLedBy, IsLedAlong, UnalteredAreLed, IsRight}
-use Rattle.ps_core.specs.ReaderEvents.{cut, passed_in, takes_in, turn_effect, turn_outcome, turned}
+use Rattle.ps_core.specs.PlayHeadline.{AreTakenBy, IsLed, IsLedBy, IsLedAlong, UnalteredAreLed, IsRightOutcome}
+use Rattle.ps_core.specs.ReaderEvents.{cut_stream, passed_in, takes_in, turn_effect, turn_outcome, stream_turned}
 use Rattle.ps_core.specs.PlaySteps.{TurnsOn}
 use Rattle.ps_core.proofs.Grounds.{Laws, Under, lawful_in}
 use Rattle.ps_core.proofs.Leading.{honest_by, with_led}
@@ -59,10 +59,10 @@ turn_stays Done stay fixed history more asker session = ap (λ (t : Taken). took
 
 told_stays : (phase : Phase) → PlacesStay → (fixed : Fixed) (history more : List Event) (asker : Asker)
     → IsToldIn phase (course fixed history asker) (length history) → IsToldIn phase (course fixed (history ++ more) asker) (length history)
-told_stays Start stay fixed history more asker told = subst (λ (t : Taken). AreTold (taken_names t)) (sym (take_stays stay fixed history more asker)) told
+told_stays Start stay fixed history more asker told = subst (λ (t : Taken). AreToldBehindMark (taken_names t)) (sym (take_stays stay fixed history more asker)) told
 told_stays Download stay fixed history more asker told = tt
-told_stays Void stay fixed history more asker told = subst (λ (t : Taken). AreTold (taken_names t)) (sym (take_stays stay fixed history more asker)) told
-told_stays Done stay fixed history more asker told = subst (λ (t : Taken). AreTold (taken_names t)) (sym (take_stays stay fixed history more asker)) told
+told_stays Void stay fixed history more asker told = subst (λ (t : Taken). AreToldBehindMark (taken_names t)) (sym (take_stays stay fixed history more asker)) told
+told_stays Done stay fixed history more asker told = subst (λ (t : Taken). AreToldBehindMark (taken_names t)) (sym (take_stays stay fixed history more asker)) told
 
 -- ---- the client is led on
 
@@ -89,7 +89,7 @@ turned_along laws c lawful n at session waiting client now told is led = record 
 
 turned_led : (fixed : Fixed) → Under fixed → (play : Play) (reader : Reader) (at : ℕ) (session : SessionState) (waiting : List Made)
     → IsToldIn session.phase (course fixed play.history reader.asker) (place play) → reader.link ≡ Streaming at session waiting → IsLed fixed play.history reader
-    → IsLed fixed play.history (record reader { link = turned (course fixed play.history reader.asker) (place play) at session waiting })
+    → IsLed fixed play.history (record reader { link = stream_turned (course fixed play.history reader.asker) (place play) at session waiting })
 turned_led fixed under play reader at session waiting told is led more legal =
     let c = course fixed (play.history ++ more) reader.asker in
     let here : IsLedBy c (place play) reader.client (Streaming at session waiting) = subst (λ (link : Link). IsLedBy c (place play) reader.client link) is (led more legal) in
@@ -99,7 +99,7 @@ turned_led fixed under play reader at session waiting told is led more legal =
 
 -- ---- a stream ends
 
-pub cut_led : (fixed : Fixed) → Under fixed → (history : List Event) (reader : Reader) → IsLed fixed history reader → IsLed fixed history (cut reader)
+pub cut_led : (fixed : Fixed) → Under fixed → (history : List Event) (reader : Reader) → IsLed fixed history reader → IsLed fixed history (cut_stream reader)
 cut_led fixed under history reader led more legal =
     honest_by under.laws (course fixed (history ++ more) reader.asker) (lawful_in fixed under (history ++ more) reader.asker legal) (length history) reader.client reader.link (led more legal)
 
@@ -126,10 +126,10 @@ outcome_turned : (fixed : Fixed) → Under fixed → (play : Play) (name : List 
     → reader.link ≡ Streaming at session waiting → (reader.altered ≡ false → IsLed fixed play.history reader) → UnalteredAreLed fixed play
     → IsTurned fixed play (turn_outcome (takes_in session.phase && many) at (course fixed play.history reader.asker) (place play) session waiting name reader play)
 outcome_turned fixed under play name reader at session waiting many told link here led = elim (cases_Bool (takes_in session.phase && many)) [
-  | inl full ↦ rw full (record { history = refl; led = with_led fixed name (cut reader) play (λ plain. cut_led fixed under play.history reader (here plain)) led; calm = tt })
+  | inl full ↦ rw full (record { history = refl; led = with_led fixed name (cut_stream reader) play (λ plain. cut_led fixed under play.history reader (here plain)) led; calm = tt })
   | inr few ↦ rw few (record {
     history = refl;
-    led = with_led fixed name (record reader { link = turned (course fixed play.history reader.asker) (place play) at session waiting }) play
+    led = with_led fixed name (record reader { link = stream_turned (course fixed play.history reader.asker) (place play) at session waiting }) play
         (λ plain. turned_led fixed under play reader at session waiting (told few) link (here plain)) led;
     calm = turn_calm (turn (course fixed play.history reader.asker) (place play) session).line (passed_in session.phase (course fixed play.history reader.asker) (place play) session);
   })
@@ -146,7 +146,7 @@ turns_along fixed under (Streaming at session waiting) name play reader outcome 
 
 pub turn_stays_led : (fixed : Fixed) → Under fixed → (play : Play) (name : List ℕ) (reader : Reader) (outcome : Outcome) → IsLegal fixed.rules play.history
     → IsLegal fixed.rules outcome.play.history → play.readers name ≡ Some reader → Retakes fixed play (Turn name) → UnalteredAreLed fixed play → TurnsOn fixed reader.link name play reader outcome
-    → UnalteredAreLed fixed outcome.play × IsRight fixed play (Turn name) outcome
+    → UnalteredAreLed fixed outcome.play × IsRightOutcome fixed play (Turn name) outcome
 turn_stays_led fixed under play name reader outcome legal after there retakes led turns =
     let it = turns_along fixed under reader.link name play reader outcome refl (led name reader there) led turns in (
       it.led,

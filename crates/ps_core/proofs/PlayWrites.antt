@@ -13,7 +13,7 @@ use Rattle.ps_store.specs.Ledgers.{Ledger, head_of, last_number}
 use Rattle.ps_streams.specs.Headline.{Local}
 use Rattle.ps_core.specs.Plays.{Play, Reader, Outcome, happens, ledger, with_reader}
 use Rattle.ps_core.specs.PlayHeadline.{UnalteredAreLed, IsLed}
-use Rattle.ps_core.specs.ReaderEvents.{next_position, numbered, numbers_for, uploaded_at, uploads, uploads_from, with_kept, writes_locally}
+use Rattle.ps_core.specs.ReaderEvents.{next_position, aimed_unless_waiting, numbers_for, uploaded_at, uploads, uploads_from, with_kept, writes_locally}
 use Rattle.ps_core.specs.PlaySteps.{NumbersAs}
 use Rattle.ps_core.proofs.Grounds.{Under}
 use Rattle.ps_core.proofs.Leading.{led_grown, led_locally, with_led}
@@ -41,7 +41,7 @@ popped_led fixed under history reader led =
     led_locally fixed under history reader local led
 
 numbered_led : (queue : List Change) (fixed : Fixed) → Under fixed → (history : List Event) (number : ℕ) (reader : Reader) → IsLed fixed history reader
-    → IsLed fixed history (with_kept (numbered queue number reader.client.kept) reader)
+    → IsLed fixed history (with_kept (aimed_unless_waiting queue number reader.client.kept) reader)
 numbered_led [] fixed under history number reader led =
     let now = aimed number reader.client.kept in
     let local : Local = record { queue = now.queue; target = now.target; shown = now.shown } in
@@ -91,7 +91,7 @@ numbers_fine : (fixed : Fixed) → Under fixed → (client : List ℕ) (limits :
 numbers_fine fixed under client limits l name play reader there led =
     let number = last_number l reader.asker.user client in
     let event : Event = events.WriteCheckpoint reader.asker.user client in
-    let own = with_kept (numbered reader.client.kept.queue (number + 1) reader.client.kept) reader in
+    let own = with_kept (aimed_unless_waiting reader.client.kept.queue (number + 1) reader.client.kept) reader in
     let all : UnalteredAreLed fixed (with_reader name own (happens event play)) = with_led fixed name own (happens event play)
     (λ plain. led_grown fixed under play.history (event ∷ []) own (numbered_led reader.client.kept.queue fixed under play.history (number + 1) reader (led name reader there plain)))
     (happens_led fixed under event play led) in

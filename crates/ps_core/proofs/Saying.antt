@@ -13,7 +13,7 @@ use Rattle.ps_script.specs.declared.events.ScriptEvent.TheVariants.{Turn, Take}
 use Rattle.ps_core.specs.declared.effects.Effect.{Effect}
 use Rattle.ps_core.specs.declared.effects.Effect.TheVariants as effects
 use Rattle.ps_core.specs.Plays.{Play, Reader, Outcome, course, place}
-use Rattle.ps_core.specs.PlayHeadline.{IsRight, ShowsDue, TakesUnaltered, UnalteredAreLed}
+use Rattle.ps_core.specs.PlayHeadline.{IsRightOutcome, ShowsDue, TakesUnaltered, UnalteredAreLed}
 use Rattle.ps_core.proofs.Grounds.{Under}
 use Rattle.ps_core.proofs.Leading.{honest_here}
 
@@ -42,7 +42,7 @@ turns_not fixed play event other name reader at session waiting is there link ph
 
 -- what is said of an event that refuses nothing
 pub says_right : (fixed : Fixed) → Under fixed → (play : Play) (event : ScriptEvent) (outcome : Outcome) → IsLegal fixed.rules outcome.play.history → UnalteredAreLed fixed outcome.play
-    → (TakesUnaltered play event → IsCalm outcome.effect) → Applies fixed play event outcome → Retakes fixed play event → IsRight fixed play event outcome
+    → (TakesUnaltered play event → IsCalm outcome.effect) → Applies fixed play event outcome → Retakes fixed play event → IsRightOutcome fixed play event outcome
 says_right fixed under play event outcome legal led calm applies retakes = record {
   honest = λ name reader there plain. honest_here fixed under outcome.play.history reader legal (led name reader there plain);
   applied = applies;

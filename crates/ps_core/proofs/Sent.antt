@@ -14,7 +14,7 @@ use Rattle.ps_store.specs.declared.stores.Store.{Store}
 use Rattle.ps_store.specs.CourseLaws.{EndsAreWhole}
 use Rattle.ps_store.specs.Courses.{course_of}
 use Rattle.ps_store.specs.Ledgers.{Ledger, ledger_of}
-use Rattle.ps_store.specs.Readings.{bucket_upto, names_of, take_of}
+use Rattle.ps_store.specs.Readings.{bucket_upto, asker_bucket_names, take_of}
 use Rattle.ps_session.specs.Kept.{state_of}
 use Rattle.ps_session.specs.Sessions.{SessionState}
 use Rattle.ps_streams.specs.declared.outcomes.TurnOutcome.{TurnOutcome}
@@ -27,7 +27,7 @@ use Rattle.ps_core.specs.declared.readers.Stream.{Stream}
 use Rattle.ps_core.specs.Plays.{Play, course, place}
 use Rattle.ps_core.specs.ReaderEvents.{turn_effect}
 use Rattle.ps_core.specs.Texts.{IsPrintable}
-use Rattle.ps_core.specs.Streams.{IsStream, Turned, Turns, effect_of}
+use Rattle.ps_core.specs.Streams.{IsStream, Turned, AnswersTurn, effect_of}
 use Rattle.ps_core.specs.Worlds.{AreWaiting, IsSentFor}
 
 -- one more line waits
@@ -66,13 +66,13 @@ module _ (fixed : Fixed) (play : Play) (store : Store) (asker : Asker) (old : St
       subst (λ (own : Asker). IsUnderWay (course_of fixed.rules play.history own) n at (state_of old.session)) (sym it.stands.asker_is)
       (subst (λ (s : SessionState). IsUnderWay (course fixed play.history asker) n at s) (sym it.stands.session_is) (record { taken = it.stands.taken; late = it.stands.late }))
 
-  take_length : EndsAreWhole → length ((course fixed play.history asker).take n).buckets ≡ length (names_of (ledger_of fixed.rules play.history) asker)
+  take_length : EndsAreWhole → length ((course fixed play.history asker).take n).buckets ≡ length (asker_bucket_names (ledger_of fixed.rules play.history) asker)
   take_length whole =
       let l = ledger_of fixed.rules play.history in
       ap (λ (x : Ledger). length (take_of x asker).buckets) (whole fixed.rules play.history)
-      ∙ length-map (names_of l asker) (λ (name : List ℕ). bucket_upto l.op name (l.log name))
+      ∙ length-map (asker_bucket_names l asker) (λ (name : List ℕ). bucket_upto l.op name (l.log name))
 
-  few_so : EndsAreWhole → (takes_in session.phase ≡ true → length (names_of (ledger_of fixed.rules play.history) asker) ≤ fixed.limits.buckets)
+  few_so : EndsAreWhole → (takes_in session.phase ≡ true → length (asker_bucket_names (ledger_of fixed.rules play.history) asker) ≤ fixed.limits.buckets)
       → takes_in session.phase && nat_lt fixed.limits.buckets (length ((course fixed play.history asker).take n).buckets) ≡ false
   few_so whole few =
       let count = length ((course fixed play.history asker).take n).buckets in
@@ -116,7 +116,7 @@ module _ (fixed : Fixed) (play : Play) (store : Store) (asker : Asker) (old : St
       }
 
   pub not_turned : EndsAreWhole → (new : Stream) (fault : TakeFault) → TurnsSo fixed play.history old.session.asker at (state_of old.session) (state_of new.session) (Err fault)
-      → Turns fixed play asker at session waiting new (Err fault)
+      → AnswersTurn fixed play asker at session waiting new (Err fault)
   not_turned whole new (TooManyBuckets count) turns =
       let own = own_turn (state_of new.session) (Err (TooManyBuckets count)) turns in
       record { takes = own.0; count_is = own.2.count_is ∙ sym (take_length whole); above = own.2.above }

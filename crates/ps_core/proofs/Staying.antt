@@ -14,11 +14,11 @@ use Rattle.ps_streams.specs.RunsTo.{IsRunTo}
 use Rattle.ps_core.specs.declared.effects.Effect.{Effect}
 use Rattle.ps_core.specs.declared.effects.Effect.TheVariants as effects
 use Rattle.ps_core.specs.Plays.{Play, Reader, Outcome, course, first_reader, place, says}
-use Rattle.ps_core.specs.PlayHeadline.{IsLed, IsRight, PlaysBeginLed, PlaysStayLed, UnalteredAreLed}
+use Rattle.ps_core.specs.PlayHeadline.{IsLed, IsRightOutcome, PlaysBeginLed, PlaysStayLed, UnalteredAreLed}
 use Rattle.ps_core.specs.PlayRuns.{AreRuns, IsRunOn, PlaysBeginRuns, PlaysStayRuns}
-use Rattle.ps_core.specs.ReaderEvents.{altered_in, becomes, cut, opened, uploads, writes_locally}
-use Rattle.ps_core.specs.StoreEvents.{feeds, closes, writes, commits, compacts, tells_totals, builds, switches, abandons}
-use Rattle.ps_core.specs.PlaySteps.{AltersOn, Gives}
+use Rattle.ps_core.specs.ReaderEvents.{altered_in, becomes, cut_stream, opened, uploads, writes_locally}
+use Rattle.ps_core.specs.StoreEvents.{feeds, closes, writes_run, commits, compacts, tells_totals, builds, switches, abandons}
+use Rattle.ps_core.specs.PlaySteps.{AltersOn, GivesOutcome}
 use Rattle.ps_core.proofs.Grounds.{Laws, Under, lawful_in}
 use Rattle.ps_core.proofs.Leading.{with_led}
 use Rattle.ps_core.proofs.Saying.{IsCalm, Retakes, says_right, takes_not, turns_not}
@@ -35,7 +35,7 @@ begin_led begin_runs fixed transactions next = record { led = λ name reader the
     nobody is = cc
 
 abbrev Stays : Fixed → Play → ScriptEvent → Outcome → Type 0
-Stays fixed play event outcome = UnalteredAreLed fixed outcome.play × IsRight fixed play event outcome
+Stays fixed play event outcome = UnalteredAreLed fixed outcome.play × IsRightOutcome fixed play event outcome
 
 -- an event that is no turn, and takes no line
 abbrev IsOther : ScriptEvent → Type 0
@@ -77,12 +77,12 @@ alters_fine (Streaming at session waiting) fixed name play reader outcome alters
     becomes_fine fixed effects.Altered name (altered_in at session waiting reader) play outcome alters tt (λ plain. absurd (true≢false plain)) led
 
 stays : (event : ScriptEvent) (fixed : Fixed) → Under fixed → (play : Play) (outcome : Outcome) → IsLegal fixed.rules play.history → IsLegal fixed.rules outcome.play.history
-    → Retakes fixed play event → Gives fixed play event outcome → UnalteredAreLed fixed play → Stays fixed play event outcome
+    → Retakes fixed play event → GivesOutcome fixed play event outcome → UnalteredAreLed fixed play → Stays fixed play event outcome
 stays (Feed count) fixed under play outcome legal after retakes gives led =
     grown_stays fixed under play (Feed count) outcome (feeds fixed count play) after tt gives (feeds_grown fixed count play) led
 stays Close fixed under play outcome legal after retakes gives led = grown_stays fixed under play Close outcome (closes play) after tt gives (closes_grown play) led
 stays (Write limit) fixed under play outcome legal after retakes gives led =
-    grown_stays fixed under play (Write limit) outcome (writes fixed limit play) after tt gives (writes_grown fixed limit play) led
+    grown_stays fixed under play (Write limit) outcome (writes_run fixed limit play) after tt gives (writes_grown fixed limit play) led
 stays Commit fixed under play outcome legal after retakes gives led = grown_stays fixed under play Commit outcome (commits fixed play) after tt gives (commits_grown fixed play) led
 stays (Compact bucket) fixed under play outcome legal after retakes gives led =
     grown_stays fixed under play (Compact bucket) outcome (compacts fixed bucket play) after tt gives (compacts_grown fixed bucket play) led
@@ -97,7 +97,7 @@ stays (Turn name) fixed under play outcome legal after retakes gives led = turn_
 stays (Take name) fixed under play outcome legal after retakes gives led = take_stays_led fixed under play name gives.0 outcome legal after gives.1 led gives.2
 stays (Cut name) fixed under play outcome legal after retakes gives led =
     fine_stays fixed under play (Cut name) outcome after tt
-    (becomes_fine fixed (effects.Cut name) name (cut gives.0) play outcome gives.2 tt (λ plain. cut_led fixed under play.history gives.0 (led name gives.0 gives.1 plain)) led)
+    (becomes_fine fixed (effects.Cut name) name (cut_stream gives.0) play outcome gives.2 tt (λ plain. cut_led fixed under play.history gives.0 (led name gives.0 gives.1 plain)) led)
 stays (Alter name) fixed under play outcome legal after retakes gives led =
     fine_stays fixed under play (Alter name) outcome after tt (alters_fine gives.0.link fixed name play gives.0 outcome gives.2 led)
 stays (Local name change) fixed under play outcome legal after retakes gives led =

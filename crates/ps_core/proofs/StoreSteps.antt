@@ -24,11 +24,11 @@ use Rattle.ps_store.specs.declared.stores.Checkpoint.{Checkpoint}
 use Rattle.ps_store.specs.declared.stores.Store.{Store}
 use Rattle.ps_store.specs.declared.stores.Wrote.{Wrote}
 use Rattle.ps_store.specs.declared.totals.Totals.{Totals}
-use Rattle.ps_store.specs.Generations.{is_of}
-use Rattle.ps_store.specs.Ledgers.{Ledger, fresh, ledger_after, force_ops, entries_after, next_ops, unwritten, write_next}
+use Rattle.ps_store.specs.Generations.{is_of_generation}
+use Rattle.ps_store.specs.Ledgers.{Ledger, fresh_ledger, ledger_after, force_ops, entries_after, next_ops, unwritten, write_next}
 use Rattle.ps_store.specs.Originals.{Timed, in_bucket}
 use Rattle.ps_store.specs.Runs.{refusal_of, run_from, stopped}
-use Rattle.ps_store.specs.Stores.{Commits, Compacts, StoreStandsFor, Writes, next_run}
+use Rattle.ps_store.specs.Stores.{Commits, Compacts, StoreStandsFor, WritesRun, next_run}
 use Rattle.ps_store.specs.Totals.{totals_of}
 use Rattle.ps_core.specs.declared.effects.Effect.{Effect}
 use Rattle.ps_core.specs.declared.effects.Effect.TheVariants as effects
@@ -116,7 +116,7 @@ pub compacted_so : (fixed : Fixed) (play : Play) (store : Store) (bucket : List 
     → CameStill fixed play (scripts.Compact bucket) store (effects.Compacted report)
 compacted_so fixed play store bucket report it =
     let l = ledger fixed play in
-    let can : (is_of l.force.number bucket ≡ true) × (in_bucket bucket l.entered ≢ []) = could_come fixed.rules play.history (events.Compact bucket) it.1.legal in
+    let can : (is_of_generation l.force.number bucket ≡ true) × (in_bucket bucket l.entered ≢ []) = could_come fixed.rules play.history (events.Compact bucket) it.1.legal in
     let some : force_ops l bucket ≢ [] = subst (λ (b : Bool). (if b then in_bucket bucket l.entered else []) ≢ []) (sym can.0) can.1 in
     happened fixed play (scripts.Compact bucket) store (effects.Compacted (report_of l.op (l.log bucket))) (effects.Compacted report) (ap effects.Compacted (sym it.0)) tt (events.Compact bucket)
     (record { may = refl; gives = over_some (force_ops l bucket) l bucket play some }) it.1
@@ -133,13 +133,13 @@ no_bucket_so fixed play store bucket it =
 abbrev wrote_of : ℕ → ℕ → Effect
 wrote_of changes last = effects.Wrote changes (record { 0 = last })
 
-pub wrote_so : (fixed : Fixed) (play : Play) (store : Store) (limit : ℕ) (wrote : Wrote) → 1 ≤ limit → limit ≤ 1000000 → Writes fixed play.history limit store (Ok wrote)
+pub wrote_so : (fixed : Fixed) (play : Play) (store : Store) (limit : ℕ) (wrote : Wrote) → 1 ≤ limit → limit ≤ 1000000 → WritesRun fixed play.history limit store (Ok wrote)
     → CameStill fixed play (scripts.Write limit) store (effects.Wrote wrote.changes wrote.last_op)
 wrote_so fixed play store limit wrote some few it =
     let l = ledger fixed play in
     let run = next_run fixed play.history limit in
     let count : 1 ≤ run.count = omega (arith, it.0, it.1) in
-    let last = ap (λ (l : Ledger). l.last) (fold-append ledger_after (fresh fixed.rules) play.history (events.Write wrote.changes ∷ [])) in
+    let last = ap (λ (l : Ledger). l.last) (fold-append ledger_after (fresh_ledger fixed.rules) play.history (events.Write wrote.changes ∷ [])) in
     happened fixed play (scripts.Write limit) store (wrote_of run.count (ledger_after l (events.Write run.count)).last) (effects.Wrote wrote.changes wrote.last_op)
     (ap (λ (n : ℕ). wrote_of n (ledger_after l (events.Write n)).last) (sym it.1) ∙ ap (wrote_of wrote.changes) (sym (it.2 ∙ last))) tt (events.Write run.count)
     (record {
@@ -174,14 +174,14 @@ pub run_empty : (limits : Limits) (l : Ledger) (all : List Timed) (limit : ℕ) 
 run_empty limits l all limit is =
     ap (λ (us : List Timed). (run_from limits l 0 (take limit us)).count) is ∙ ap (λ (us : List Timed). (run_from limits l 0 us).count) (take-nil {A = Timed} limit)
 
-pub nothing_to_write : (fixed : Fixed) (play : Play) (store : Store) (limit : ℕ) → 1 ≤ limit → limit ≤ 1000000 → Writes fixed play.history limit store (Err writing.NothingToWrite)
+pub nothing_to_write : (fixed : Fixed) (play : Play) (store : Store) (limit : ℕ) → 1 ≤ limit → limit ≤ 1000000 → WritesRun fixed play.history limit store (Err writing.NothingToWrite)
     → CameStill fixed play (scripts.Write limit) store effects.NothingToWrite
 nothing_to_write fixed play store limit some few it =
     let l = ledger fixed play in
     none_written fixed play store limit effects.NothingToWrite some few (run_empty fixed.limits l (unwritten l) limit it.0) (ap (unwritten_effect fixed.limits l) it.0) tt it.1
 
 pub too_wide : (fixed : Fixed) (play : Play) (store : Store) (limit : ℕ) (table id : List ℕ) (count : ℕ) → 1 ≤ limit → limit ≤ 1000000
-    → Writes fixed play.history limit store (Err (writing.TooWide table id count)) → CameStill fixed play (scripts.Write limit) store (effects.TooWide count)
+    → WritesRun fixed play.history limit store (Err (writing.TooWide table id count)) → CameStill fixed play (scripts.Write limit) store (effects.TooWide count)
 too_wide fixed play store limit table id count some few it =
     let l = ledger fixed play in
     let r = it.0 in
@@ -192,7 +192,7 @@ too_wide fixed play store limit table id count some few it =
     (ap (unwritten_effect fixed.limits l) r.2 ∙ cond-true _ _ _ wide ∙ ap effects.TooWide (sym r.6)) tt it.1
 
 pub ops_full : (fixed : Fixed) (play : Play) (store : Store) (limit : ℕ) (last : OpId) → 1 ≤ limit → limit ≤ 1000000
-    → Writes fixed play.history limit store (Err (writing.OpsFull last)) → CameStill fixed play (scripts.Write limit) store (effects.OpsFull last)
+    → WritesRun fixed play.history limit store (Err (writing.OpsFull last)) → CameStill fixed play (scripts.Write limit) store (effects.OpsFull last)
 ops_full fixed play store limit last some few it =
     let l = ledger fixed play in
     let r = it.0 in

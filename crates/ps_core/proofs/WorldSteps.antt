@@ -29,8 +29,8 @@ use Rattle.ps_core.specs.declared.visits.Visit.{Visit}
 use Rattle.ps_core.specs.declared.visits.Visit.TheVariants.{Open, Turn, Take, Cut, Alter, Local, Upload, Number, Rows}
 use Rattle.ps_core.specs.declared.worlds.World.{World}
 use Rattle.ps_core.specs.Feeding.{FeedsAll, IsLeft}
-use Rattle.ps_core.specs.Parts.{Acts, Came, CameStill, HasTable, IsAt, Serves, event_of}
-use Rattle.ps_core.specs.Readers.{HasBegun, IsPut, Readers, reader_at}
+use Rattle.ps_core.specs.Parts.{Acts, Came, CameStill, HasTable, IsClientNamed, Serves, event_of}
+use Rattle.ps_core.specs.Readers.{ClientHasBegun, IsPut, Readers, reader_at}
 use Rattle.ps_core.specs.WorldSteps.{Gave, Goes, Refused, Went}
 use Rattle.ps_core.specs.Scripts.{AreLow}
 use Rattle.ps_core.specs.Worlds.{IsWorld, OneStandsFor, ReaderStandsFor, WorldStandsFor}
@@ -138,7 +138,7 @@ one_there fixed history own this None some stands = absurd (subst (λ (o : Optio
 one_there fixed history own this (Some that) some stands = (that, refl, subst (λ (o : Option Reader). OneStandsFor fixed history o (Some that)) some stands)
 
 pub is_at_name : (fixed : Fixed) (world : World) (play : Play) (name : List ℕ) (own : Reader) → WorldStandsFor fixed world play → reader_at world.readers name ≡ Some own
-    → IsAt fixed play name world.store own
+    → IsClientNamed fixed play name world.store own
 is_at_name fixed world play name own it there =
     let found = one_there fixed play.history (reader_at world.readers name) own (play.readers name) there (it.readers name) in
     record { reader = found.0; serves = serves fixed world play it; named = found.1; stands = found.2 }
@@ -221,7 +221,7 @@ may_begin fixed world play name asker it none = ap (λ (b : Bool). if b then Som
     not_there (Some own) reader none stands = cc
 
 pub began : PlacesStay → (fixed : Fixed) (old new : World) (play : Play) (name : List ℕ) (asker : Asker) (effect : Effect) → WorldStandsFor fixed old play → new.store ≡ old.store
-    → new.failed ≡ old.failed → new.left.items ≡ old.left.items → new.next ≡ old.next → is_some (reader_at old.readers name) ≡ false → HasBegun old.readers name asker new.readers effect
+    → new.failed ≡ old.failed → new.left.items ≡ old.left.items → new.next ≡ old.next → is_some (reader_at old.readers name) ≡ false → ClientHasBegun old.readers name asker new.readers effect
     → Went fixed play (scripts.Client name asker) new effect
 began stay fixed old new play name asker effect it store failed left next none has =
     let outcome : Outcome = becomes (effects.Client name) name (first_reader asker) play in
@@ -241,7 +241,7 @@ began stay fixed old new play name asker effect it store failed left next none h
 
 pub has_begun : (old new : Readers) (name key said : List ℕ) (asker : Asker) (reader : Reader) → key ≡ name → said ≡ name
     → ((other : List ℕ) → get (slice_cmp nat_cmp) new other ≡ cond (is_at (slice_cmp nat_cmp key) other) (Some reader) (get (slice_cmp nat_cmp) old other))
-    → ((fixed : Fixed) (history : List Event) → ReaderStandsFor fixed history reader (first_reader asker)) → HasBegun old name asker new (effects.Client said)
+    → ((fixed : Fixed) (history : List Event) → ReaderStandsFor fixed history reader (first_reader asker)) → ClientHasBegun old name asker new (effects.Client said)
 has_begun old new name key said asker reader key_is said_is gives first = record {
   reader = reader;
   put = subst (λ (k : List ℕ). IsPut old k reader new) key_is (put_by old new key reader gives);

@@ -28,10 +28,10 @@ use Rattle.ps_store.specs.Stores.{MakesNumber, Uploads}
 use Rattle.ps_core.specs.declared.effects.Effect.TheVariants as effects
 use Rattle.ps_core.specs.Plays.{Play, Outcome, happens, ledger, says, with_reader}
 use Rattle.ps_core.specs.Plays as plays
-use Rattle.ps_core.specs.ReaderEvents.{next_position, numbered, numbers_for, uploaded_at, uploads, uploads_from, with_kept}
+use Rattle.ps_core.specs.ReaderEvents.{next_position, aimed_unless_waiting, numbers_for, uploaded_at, uploads, uploads_from, with_kept}
 use Rattle.ps_core.specs.PlaySteps.{NumbersAs, nameless, unknown, unknown_or_nameless, untabled}
 use Rattle.ps_core.specs.declared.readers.Reader.{Reader}
-use Rattle.ps_core.specs.Parts.{CameTo, IsAt, IsWant}
+use Rattle.ps_core.specs.Parts.{CameTo, IsClientNamed, IsOutOfMemory}
 use Rattle.ps_core.specs.Worlds.{ReaderStandsFor, LinkStandsFor}
 use Rattle.ps_core.specs.Writing.{NextIs}
 use Rattle.ps_core.proofs.Histories.{could_come, reader_more}
@@ -40,13 +40,13 @@ use Rattle.ps_core.proofs.StreamSteps.{known}
 
 -- ---- faults
 
-pub is_want : (fault : ClientFault) → IsBelow fault → RoseAtFault fault 0 0 → IsWant fault
-is_want faults.OutOfOrder below rose = below
-is_want (faults.BadLine fault) below rose = below
-is_want faults.KeeperFault below rose = absurd (omega (arith, rose))
-is_want faults.QueueEmpty below rose = below
-is_want (faults.QueueWaiting length) below rose = below
-is_want faults.Memory below rose = tt
+pub is_out_of_memory : (fault : ClientFault) → IsBelow fault → RoseAtFault fault 0 0 → IsOutOfMemory fault
+is_out_of_memory faults.OutOfOrder below rose = below
+is_out_of_memory (faults.BadLine fault) below rose = below
+is_out_of_memory faults.KeeperFault below rose = absurd (omega (arith, rose))
+is_out_of_memory faults.QueueEmpty below rose = below
+is_out_of_memory (faults.QueueWaiting length) below rose = below
+is_out_of_memory faults.Memory below rose = tt
 
 pub pops : (queue : List Change) (change : Change) (rest : List Change) (result : Result (Unit {0}) ClientFault) → queue ≡ change ∷ rest → WantsWrites queue result → FailsBelow result
 pops queue change rest result is wants = subst (λ (q : List Change). WantsWrites q result) is wants
@@ -73,7 +73,7 @@ tabled (b ∷ bs) o some = refl
 pub may_write : (play : Play) (name : List ℕ) (reader : plays.Reader) (change : Change) → play.readers name ≡ Some reader → change.table ≢ [] → untabled change.table (play.readers name) ≡ None
 may_write play name reader change named some = tabled change.table (play.readers name) some ∙ known play name reader named
 
-pub wrote_locally : (fixed : Fixed) (play : Play) (name said : List ℕ) (store : Store) (old new : Reader) (change own : Change) → IsAt fixed play name store old → change.table ≢ [] → said ≡ name → own ≡ change
+pub wrote_locally : (fixed : Fixed) (play : Play) (name said : List ℕ) (store : Store) (old new : Reader) (change own : Change) → IsClientNamed fixed play name store old → change.table ≢ [] → said ≡ name → own ≡ change
     → new.asker ≡ old.asker → new.stream ≡ old.stream → state new.client ≡ keeping (written own (state old.client).kept) (state old.client)
     → CameTo fixed play (scripts.Local name change) name store new (effects.Local said)
 wrote_locally fixed play name said store old new change own it some said_is own_is asker stream client_is =
@@ -105,7 +105,7 @@ tables_of {queue} {changes} next =
 abbrev position_of : ℕ → Position
 position_of n = record { 0 = n }
 
-module _ (fixed : Fixed) (play : Play) (name : List ℕ) (store : Store) (old : Reader) (it : IsAt fixed play name store old) where
+module _ (fixed : Fixed) (play : Play) (name : List ℕ) (store : Store) (old : Reader) (it : IsClientNamed fixed play name store old) where
   queue_is : (queue : List Change) → (state old.client).kept.queue ≡ queue → it.reader.client.kept.queue ≡ queue
   queue_is queue is = ap (λ (c : PlainClient). c.kept.queue) (sym it.stands.client_is) ∙ is
 
@@ -182,11 +182,11 @@ module _ (fixed : Fixed) (play : Play) (name : List ℕ) (store : Store) (old : 
 
 -- ---- write checkpoints
 
-pub wrong_number : (fixed : Fixed) (play : Play) (name : List ℕ) (store : Store) (own : Reader) → (it : IsAt fixed play name store own) → own.asker.client ≡ None
+pub wrong_number : (fixed : Fixed) (play : Play) (name : List ℕ) (store : Store) (own : Reader) → (it : IsClientNamed fixed play name store own) → own.asker.client ≡ None
     → unknown_or_nameless (play.readers name) ≡ Some WrongPhase
 wrong_number fixed play name store own it none = ap unknown_or_nameless it.named ∙ ap nameless (ap (λ a. a.client) (sym it.stands.asker_is) ∙ none)
 
-module _ (fixed : Fixed) (play : Play) (name : List ℕ) (store : Store) (old : Reader) (it : IsAt fixed play name store old) (client : List ℕ) (named : old.asker.client ≡ Some client) where
+module _ (fixed : Fixed) (play : Play) (name : List ℕ) (store : Store) (old : Reader) (it : IsClientNamed fixed play name store old) (client : List ℕ) (named : old.asker.client ≡ Some client) where
   client_is : it.reader.asker.client ≡ Some client
   client_is = ap (λ a. a.client) (sym it.stands.asker_is) ∙ named
 
@@ -205,7 +205,7 @@ module _ (fixed : Fixed) (play : Play) (name : List ℕ) (store : Store) (old : 
   abbrev number_out : Outcome
   number_out = record {
     effect = effects.Number (last + 1) (record { 0 = head_of (ledger fixed play).fed });
-    play = with_reader name (with_kept (numbered it.reader.client.kept.queue (last + 1) it.reader.client.kept) it.reader) (happens (events.WriteCheckpoint it.reader.asker.user client) play);
+    play = with_reader name (with_kept (aimed_unless_waiting it.reader.client.kept.queue (last + 1) it.reader.client.kept) it.reader) (happens (events.WriteCheckpoint it.reader.asker.user client) play);
   }
 
   abbrev full_out' : Outcome
@@ -229,14 +229,14 @@ module _ (fixed : Fixed) (play : Play) (name : List ℕ) (store : Store) (old : 
   number_low new number makes = omega (arith, makes.0, makes.1, it.serves.limits.numbers)
 
   pub number_so : PlacesStay → (new : Store) (now : Reader) (number : ℕ) (head : Position) → MakesNumber fixed play.history old.asker.user client new (Ok number) → head.0 ≡ head_of (ledger fixed play).fed
-      → now.asker ≡ old.asker → now.stream ≡ old.stream → state now.client ≡ keeping (numbered (state old.client).kept.queue number (state old.client).kept) (state old.client)
+      → now.asker ≡ old.asker → now.stream ≡ old.stream → state now.client ≡ keeping (aimed_unless_waiting (state old.client).kept.queue number (state old.client).kept) (state old.client)
       → CameTo fixed play (scripts.Number name) name new now (effects.Number number head)
   number_so stay new now number head makes head_is asker stream kept_is =
       let own = by_user new (Ok number) makes in
       let made : Event = events.WriteCheckpoint it.reader.asker.user client in
-      let aim : Kept → Kept = λ (k : Kept). numbered k.queue (last + 1) k in
+      let aim : Kept → Kept = λ (k : Kept). aimed_unless_waiting k.queue (last + 1) k in
       let mine : state now.client ≡ keeping (aim (state old.client).kept) (state old.client) =
-      kept_is ∙ ap (λ (n : ℕ). keeping (numbered (state old.client).kept.queue n (state old.client).kept) (state old.client)) own.0 in
+      kept_is ∙ ap (λ (n : ℕ). keeping (aimed_unless_waiting (state old.client).kept.queue n (state old.client).kept) (state old.client)) own.0 in
       happened_to fixed play (scripts.Number name) name new now (effects.Number (last + 1) (record { 0 = head_of (ledger fixed play).fed })) (effects.Number number head)
       (ap (λ (n : ℕ). effects.Number n (record { 0 = head_of (ledger fixed play).fed })) (sym own.0) ∙ ap (λ (n : ℕ). effects.Number number (record { 0 = n })) (sym head_is)) tt made
       (with_kept (aim it.reader.client.kept) it.reader)

@@ -56,7 +56,7 @@ CanFault faults.Memory = Unit {0}
 
 -- ---- an answer
 
-pub record IsAnswered (old new : PlainClient) (line : Line) (answer : Answer) : Type 0 where
+pub record LineIsAnswered (old new : PlainClient) (line : Line) (answer : Answer) : Type 0 where
   pub effect_is : took_effect (taken old line).answer ≡ answer.effect
   pub over_is : ends (taken old line).answer ≡ answer.over
   pub client_is : new ≡ showing new.kept.shown (taken old line).client

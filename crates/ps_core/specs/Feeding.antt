@@ -28,13 +28,13 @@ pub record FedFirst (fixed : Fixed) (history : List Event) (count : ℕ) (old : 
   pub stands : StoreStandsFor fixed store (history ++ Feed first ∷ [])
 
 -- why the first may not be fed, where there is one
-abbrev pub Ends : Fixed → List Event → ℕ → List Transaction → Effect → Type 0
-Ends fixed history count [] effect = effect ≡ Fed count
-Ends fixed history count (t ∷ ts) effect = feed_refusal (ledger_of fixed.rules history) count t ≡ Some effect
+abbrev pub EndsFeeding : Fixed → List Event → ℕ → List Transaction → Effect → Type 0
+EndsFeeding fixed history count [] effect = effect ≡ Fed count
+EndsFeeding fixed history count (t ∷ ts) effect = feed_refusal (ledger_of fixed.rules history) count t ≡ Some effect
 
 -- nothing more is fed
 pub record FedAll (fixed : Fixed) (history : List Event) (count : ℕ) (old : List Transaction) (store : Store) (new : List Transaction) (effect : Effect) : Type 0 where
-  pub ends : Ends fixed history count old effect
+  pub ends : EndsFeeding fixed history count old effect
   pub printable : IsPrintable effect
   pub new_is : new ≡ old
   pub stands : StoreStandsFor fixed store history

@@ -85,7 +85,7 @@ HasTable Number = Unit {0}
 HasTable Rows = Unit {0}
 
 -- this is the client of a name
-pub record IsAt (fixed : Fixed) (play : Play) (name : List ℕ) (store : Store) (own : Reader) : Type 0 where
+pub record IsClientNamed (fixed : Fixed) (play : Play) (name : List ℕ) (store : Store) (own : Reader) : Type 0 where
   pub reader : plays.Reader
   pub serves : Serves fixed store play
   pub named : play.readers name ≡ Some reader
@@ -106,7 +106,7 @@ abbrev pub Acts : Fixed → Play → ScriptEvent → List ℕ → Store → Read
 Acts fixed play event name store own (Ok effect) = CameTo fixed play event name store own effect
 Acts fixed play event name store own (Err BadEvent) = ⊥
 Acts fixed play event name store own (Err UnknownClient) = ⊥
-Acts fixed play event name store own (Err WrongPhase) = (refusal play event ≡ Some WrongPhase) × IsAt fixed play name store own
+Acts fixed play event name store own (Err WrongPhase) = (refusal play event ≡ Some WrongPhase) × IsClientNamed fixed play name store own
 Acts fixed play event name store own (Err Memory) = refusal play event ≡ None
 
 abbrev pub faulted : Result Effect values.Memory → Result Effect ScriptFault
@@ -114,13 +114,13 @@ faulted (Ok effect) = Ok effect
 faulted (Err want) = Err Memory
 
 -- a fault of a client that is out of memory
-abbrev pub IsWant : ClientFault → Type 0
-IsWant faults.OutOfOrder = ⊥
-IsWant (faults.BadLine fault) = ⊥
-IsWant faults.KeeperFault = ⊥
-IsWant faults.QueueEmpty = ⊥
-IsWant (faults.QueueWaiting length) = ⊥
-IsWant faults.Memory = Unit {0}
+abbrev pub IsOutOfMemory : ClientFault → Type 0
+IsOutOfMemory faults.OutOfOrder = ⊥
+IsOutOfMemory (faults.BadLine fault) = ⊥
+IsOutOfMemory faults.KeeperFault = ⊥
+IsOutOfMemory faults.QueueEmpty = ⊥
+IsOutOfMemory (faults.QueueWaiting length) = ⊥
+IsOutOfMemory faults.Memory = Unit {0}
 
 -- what becomes of lines that wait where the oldest of data is altered; it is out of memory only where there is one
 abbrev pub Alters : List Made → List Sent → List Sent → Result Unit ScriptFault → Type 0

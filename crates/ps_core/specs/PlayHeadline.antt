@@ -67,7 +67,7 @@ ShowsDue fixed play m op old new = (m.at ≤ place play) × IsShown (course fixe
 abbrev pub TakesUnaltered : Play → ScriptEvent → Type 0
 TakesUnaltered play event = (name : List ℕ) (reader : Reader) → event ≡ Take name → play.readers name ≡ Some reader → reader.altered ≡ false
 
-pub record IsRight (fixed : Fixed) (play : Play) (event : ScriptEvent) (outcome : Outcome) : Type 0 where
+pub record IsRightOutcome (fixed : Fixed) (play : Play) (event : ScriptEvent) (outcome : Outcome) : Type 0 where
   -- every client none of whose streams was altered is honest
   pub honest : (name : List ℕ) (reader : Reader) → outcome.play.readers name ≡ Some reader → reader.altered ≡ false
       → AreHonest (course fixed outcome.play.history reader.asker) (place outcome.play) reader.client.kept.bucket
@@ -88,7 +88,7 @@ pub record IsRight (fixed : Fixed) (play : Play) (event : ScriptEvent) (outcome 
 abbrev pub PlaysStayLed : Type 0
 PlaysStayLed = (fixed : Fixed) (play : Play) (event : ScriptEvent) (outcome : Outcome) → AreRules fixed.rules → HaveNumbers fixed.rules.definitions
     → IsLegal fixed.rules play.history → IsLegal fixed.rules outcome.play.history → Comes fixed play event outcome → AreLed fixed play
-    → AreLed fixed outcome.play × IsRight fixed play event outcome
+    → AreLed fixed outcome.play × IsRightOutcome fixed play event outcome
 
 -- before the first event there is no client
 abbrev pub PlaysBeginLed : Type 0

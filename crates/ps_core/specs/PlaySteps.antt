@@ -10,8 +10,8 @@ use Rattle.ps_script.specs.declared.faults.ScriptFault.TheVariants.{BadEvent, Un
 use Rattle.ps_core.specs.declared.effects.Effect.TheVariants as effects
 use Rattle.ps_core.specs.Altering.{has_data}
 use Rattle.ps_core.specs.Plays.{Play, Reader, Outcome, first_reader, ledger}
-use Rattle.ps_core.specs.StoreEvents.{feeds, closes, writes, commits, compacts, tells_totals, DeploysNext, builds, switches, abandons}
-use Rattle.ps_core.specs.ReaderEvents.{Opens, Turns, TakesLine, TellsRows, altered_in, becomes, cut, numbers_for, uploads, writes_locally}
+use Rattle.ps_core.specs.StoreEvents.{feeds, closes, writes_run, commits, compacts, tells_totals, DeploysNext, builds, switches, abandons}
+use Rattle.ps_core.specs.ReaderEvents.{Opens, TurnsReader, TakesWaitingLine, TellsRows, altered_in, becomes, cut_stream, numbers_for, uploads, writes_locally}
 
 -- ---- refusals
 
@@ -93,11 +93,11 @@ OfReader name play P = (reader : Reader) × (play.readers name ≡ Some reader) 
 -- by the stream of a client
 abbrev pub TurnsOn : Fixed → Link → List ℕ → Play → Reader → Outcome → Type 0
 TurnsOn fixed Idle name play reader outcome = ⊥
-TurnsOn fixed (Streaming at session waiting) name play reader outcome = Turns fixed at session waiting name play reader outcome
+TurnsOn fixed (Streaming at session waiting) name play reader outcome = TurnsReader fixed at session waiting name play reader outcome
 
 abbrev pub TakesOn : Link → List ℕ → Play → Reader → Outcome → Type 0
 TakesOn Idle name play reader outcome = ⊥
-TakesOn (Streaming at session waiting) name play reader outcome = TakesLine at session waiting name play reader outcome
+TakesOn (Streaming at session waiting) name play reader outcome = TakesWaitingLine at session waiting name play reader outcome
 
 abbrev pub AltersOn : Link → List ℕ → Play → Reader → Outcome → Type 0
 AltersOn Idle name play reader outcome = ⊥
@@ -107,29 +107,29 @@ abbrev pub NumbersAs : Fixed → Option (List ℕ) → List ℕ → Play → Rea
 NumbersAs fixed None name play reader outcome = ⊥
 NumbersAs fixed (Some client) name play reader outcome = outcome ≡ numbers_for client fixed.limits (ledger fixed play) name play reader
 
-abbrev pub Gives : Fixed → Play → ScriptEvent → Outcome → Type 0
-Gives fixed play (Feed count) outcome = outcome ≡ feeds fixed count play
-Gives fixed play Close outcome = outcome ≡ closes play
-Gives fixed play (Write limit) outcome = outcome ≡ writes fixed limit play
-Gives fixed play Commit outcome = outcome ≡ commits fixed play
-Gives fixed play (Compact bucket) outcome = outcome ≡ compacts fixed bucket play
-Gives fixed play (Client name asker) outcome = outcome ≡ becomes (effects.Client name) name (first_reader asker) play
-Gives fixed play (Open name) outcome = OfReader name play (λ reader. Opens name play reader outcome)
-Gives fixed play (Turn name) outcome = OfReader name play (λ reader. TurnsOn fixed reader.link name play reader outcome)
-Gives fixed play (Take name) outcome = OfReader name play (λ reader. TakesOn reader.link name play reader outcome)
-Gives fixed play (Cut name) outcome = OfReader name play (λ reader. outcome ≡ becomes (effects.Cut name) name (cut reader) play)
-Gives fixed play (Alter name) outcome = OfReader name play (λ reader. AltersOn reader.link name play reader outcome)
-Gives fixed play (Local name change) outcome = OfReader name play (λ reader. outcome ≡ writes_locally name change play reader)
-Gives fixed play (Upload name) outcome = OfReader name play (λ reader. outcome ≡ uploads fixed name play reader)
-Gives fixed play (Number name) outcome = OfReader name play (λ reader. NumbersAs fixed reader.asker.client name play reader outcome)
-Gives fixed play (Rows name) outcome = OfReader name play (λ reader. TellsRows play reader outcome)
-Gives fixed play Totals outcome = outcome ≡ tells_totals fixed play
-Gives fixed play Deploy outcome = DeploysNext fixed play.next play outcome
-Gives fixed play (Build limit) outcome = outcome ≡ builds fixed limit play
-Gives fixed play Switch outcome = outcome ≡ switches fixed play
-Gives fixed play Abandon outcome = outcome ≡ abandons fixed play
+abbrev pub GivesOutcome : Fixed → Play → ScriptEvent → Outcome → Type 0
+GivesOutcome fixed play (Feed count) outcome = outcome ≡ feeds fixed count play
+GivesOutcome fixed play Close outcome = outcome ≡ closes play
+GivesOutcome fixed play (Write limit) outcome = outcome ≡ writes_run fixed limit play
+GivesOutcome fixed play Commit outcome = outcome ≡ commits fixed play
+GivesOutcome fixed play (Compact bucket) outcome = outcome ≡ compacts fixed bucket play
+GivesOutcome fixed play (Client name asker) outcome = outcome ≡ becomes (effects.Client name) name (first_reader asker) play
+GivesOutcome fixed play (Open name) outcome = OfReader name play (λ reader. Opens name play reader outcome)
+GivesOutcome fixed play (Turn name) outcome = OfReader name play (λ reader. TurnsOn fixed reader.link name play reader outcome)
+GivesOutcome fixed play (Take name) outcome = OfReader name play (λ reader. TakesOn reader.link name play reader outcome)
+GivesOutcome fixed play (Cut name) outcome = OfReader name play (λ reader. outcome ≡ becomes (effects.Cut name) name (cut_stream reader) play)
+GivesOutcome fixed play (Alter name) outcome = OfReader name play (λ reader. AltersOn reader.link name play reader outcome)
+GivesOutcome fixed play (Local name change) outcome = OfReader name play (λ reader. outcome ≡ writes_locally name change play reader)
+GivesOutcome fixed play (Upload name) outcome = OfReader name play (λ reader. outcome ≡ uploads fixed name play reader)
+GivesOutcome fixed play (Number name) outcome = OfReader name play (λ reader. NumbersAs fixed reader.asker.client name play reader outcome)
+GivesOutcome fixed play (Rows name) outcome = OfReader name play (λ reader. TellsRows play reader outcome)
+GivesOutcome fixed play Totals outcome = outcome ≡ tells_totals fixed play
+GivesOutcome fixed play Deploy outcome = DeploysNext fixed play.next play outcome
+GivesOutcome fixed play (Build limit) outcome = outcome ≡ builds fixed limit play
+GivesOutcome fixed play Switch outcome = outcome ≡ switches fixed play
+GivesOutcome fixed play Abandon outcome = outcome ≡ abandons fixed play
 
 -- an event comes
 pub record Comes (fixed : Fixed) (play : Play) (event : ScriptEvent) (outcome : Outcome) : Type 0 where
   pub may : refusal play event ≡ None
-  pub gives : Gives fixed play event outcome
+  pub gives : GivesOutcome fixed play event outcome

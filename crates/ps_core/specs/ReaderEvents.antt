@@ -50,8 +50,8 @@ pub record Opens (name : List ℕ) (play : Play) (reader : Reader) (outcome : Ou
   pub is : outcome ≡ becomes (effects.Opened name) name (opened requested play reader) play
 
 -- the stream ends: the session and its lines go
-abbrev pub cut : Reader → Reader
-cut reader = record reader { link = Idle }
+abbrev pub cut_stream : Reader → Reader
+cut_stream reader = record reader { link = Idle }
 
 -- ---- turns
 
@@ -61,18 +61,18 @@ turn_effect None (Some op) = effects.Passed op
 turn_effect None None = effects.Waiting
 
 -- the session after a turn at a place, whose line waits behind the others
-abbrev pub turned : Course → ℕ → ℕ → SessionState → List Made → Link
-turned course n at session waiting =
+abbrev pub stream_turned : Course → ℕ → ℕ → SessionState → List Made → Link
+stream_turned course n at session waiting =
     Streaming (at_after session.phase at n) (turn course n session).session
     (waiting ++ made_by (at_after session.phase at n) (turn course n session).line None [])
 
 -- too many buckets end the stream
 abbrev pub turn_outcome : Bool → ℕ → Course → ℕ → SessionState → List Made → List ℕ → Reader → Play → Outcome
 turn_outcome too_many at course n session waiting name reader play =
-    if too_many then becomes (effects.TooMany (length (course.take n).buckets)) name (cut reader) play
-    else becomes (turn_effect (turn course n session).line (passed_in session.phase course n session)) name (record reader { link = turned course n at session waiting }) play
+    if too_many then becomes (effects.TooMany (length (course.take n).buckets)) name (cut_stream reader) play
+    else becomes (turn_effect (turn course n session).line (passed_in session.phase course n session)) name (record reader { link = stream_turned course n at session waiting }) play
 
-pub record Turns (fixed : Fixed) (at : ℕ) (session : SessionState) (waiting : List Made) (name : List ℕ) (play : Play) (reader : Reader) (outcome : Outcome) : Type 0 where
+pub record TurnsReader (fixed : Fixed) (at : ℕ) (session : SessionState) (waiting : List Made) (name : List ℕ) (play : Play) (reader : Reader) (outcome : Outcome) : Type 0 where
   -- where fewer are taken, they are told
   pub told : nat_lt fixed.limits.buckets (length ((course fixed play.history reader.asker).take (place play)).buckets) ≡ false
       → IsToldIn session.phase (course fixed play.history reader.asker) (place play)
@@ -124,9 +124,9 @@ took_outcome took rows link name reader play =
     becomes (took_effect took.answer) name (record reader { client = showing rows took.client; link = link_after_answer took.answer link }) play
 
 -- the oldest line that waits, if any, as it is read
-abbrev pub TakesLine : ℕ → SessionState → List Made → List ℕ → Play → Reader → Outcome → Type 0
-TakesLine at session [] name play reader outcome = outcome ≡ says effects.NoLine play
-TakesLine at session (m ∷ ms) name play reader outcome =
+abbrev pub TakesWaitingLine : ℕ → SessionState → List Made → List ℕ → Play → Reader → Outcome → Type 0
+TakesWaitingLine at session [] name play reader outcome = outcome ≡ says effects.NoLine play
+TakesWaitingLine at session (m ∷ ms) name play reader outcome =
     (rows : Rows) × ShowsAfter (taken reader.client (without_targets m.line)).answer reader.client.kept rows
     × (outcome ≡ took_outcome (taken reader.client (without_targets m.line)) rows (Streaming at session ms) name reader play)
 
@@ -164,9 +164,9 @@ abbrev pub uploads : Fixed → List ℕ → Play → Reader → Outcome
 uploads fixed name play reader = uploads_from reader.client.kept.queue fixed.limits (ledger fixed play) name play reader
 
 -- where no local write waits for its upload, the number is the target
-abbrev pub numbered : List Change → ℕ → Kept → Kept
-numbered [] number kept = aimed number kept
-numbered (change ∷ queue) number kept = kept
+abbrev pub aimed_unless_waiting : List Change → ℕ → Kept → Kept
+aimed_unless_waiting [] number kept = aimed number kept
+aimed_unless_waiting (change ∷ queue) number kept = kept
 
 -- the client's next number, at the head of what is fed
 abbrev pub numbers_for : List ℕ → Limits → Ledger → List ℕ → Play → Reader → Outcome
@@ -174,7 +174,7 @@ numbers_for client limits l name play reader =
     if nat_lt (last_number l reader.asker.user client) limits.numbers
     then (record {
       effect = effects.Number (last_number l reader.asker.user client + 1) (record { 0 = head_of l.fed });
-      play = with_reader name (with_kept (numbered reader.client.kept.queue (last_number l reader.asker.user client + 1) reader.client.kept) reader)
+      play = with_reader name (with_kept (aimed_unless_waiting reader.client.kept.queue (last_number l reader.asker.user client + 1) reader.client.kept) reader)
           (happens (events.WriteCheckpoint reader.asker.user client) play);
     })
     else says (effects.NumberFull (last_number l reader.asker.user client)) play

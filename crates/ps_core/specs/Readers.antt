@@ -23,7 +23,7 @@ abbrev pub IsPut : Readers → List ℕ → Reader → Readers → Type 0
 IsPut old name reader new = (other : List ℕ) → reader_at new other ≡ (if bytes_eq name other then Some reader else reader_at old other)
 
 -- a client of an asker begins under the name
-pub record HasBegun (old : Readers) (name : List ℕ) (asker : Asker) (new : Readers) (effect : Effect) : Type 0 where
+pub record ClientHasBegun (old : Readers) (name : List ℕ) (asker : Asker) (new : Readers) (effect : Effect) : Type 0 where
   pub reader : Reader
   pub put : IsPut old name reader new
   pub first : (fixed : Fixed) (history : List Event) → ReaderStandsFor fixed history reader (first_reader asker)

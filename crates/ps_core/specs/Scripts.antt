@@ -9,7 +9,7 @@ use Rattle.ps_store.specs.Limits.{AreWithin, greatest}
 use Rattle.ps_script.specs.declared.events.ScriptEvent.{ScriptEvent}
 use Rattle.ps_core.specs.Plays.{Play, Outcome, first_play}
 use Rattle.ps_core.specs.PlaySteps.{Comes}
-use Rattle.ps_core.specs.PlayHeadline.{IsRight}
+use Rattle.ps_core.specs.PlayHeadline.{IsRightOutcome}
 
 -- no position is past the greatest
 abbrev pub AreLow : List Transaction → Type 0
@@ -37,7 +37,7 @@ ArePlayed fixed play (event ∷ events) (outcome ∷ outcomes) = Comes fixed pla
 abbrev pub AreRight : Fixed → Play → List ScriptEvent → List Outcome → Type 0
 AreRight fixed play [] outcomes = Unit {0}
 AreRight fixed play (event ∷ events) [] = Unit {0}
-AreRight fixed play (event ∷ events) (outcome ∷ outcomes) = IsRight fixed play event outcome × AreRight fixed outcome.play events outcomes
+AreRight fixed play (event ∷ events) (outcome ∷ outcomes) = IsRightOutcome fixed play event outcome × AreRight fixed outcome.play events outcomes
 
 -- so it is in every script, over valid rules, those that a deploy takes among them, and any transactions
 abbrev pub ScriptsAreRight : Type 0

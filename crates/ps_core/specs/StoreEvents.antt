@@ -64,8 +64,8 @@ written_run run limits l play =
     then (record { effect = Wrote run.count (record { 0 = (ledger_after l (events.Write run.count)).last }); play = happens (events.Write run.count) play })
     else says (unwritten_effect limits l (unwritten l)) play
 
-abbrev pub writes : Fixed → ℕ → Play → Outcome
-writes fixed limit play = written_run (next_run fixed play.history limit) fixed.limits (ledger fixed play) play
+abbrev pub writes_run : Fixed → ℕ → Play → Outcome
+writes_run fixed limit play = written_run (next_run fixed play.history limit) fixed.limits (ledger fixed play) play
 
 -- ---- the others
 

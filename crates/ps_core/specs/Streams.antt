@@ -44,7 +44,7 @@ pub record IsTooMuch (fixed : Fixed) (play : Play) (asker : Asker) (session : Se
   pub count_is : count ≡ length ((course fixed play.history asker).take (place play)).buckets
   pub above : fixed.limits.buckets < count
 
-abbrev pub Turns : Fixed → Play → Asker → ℕ → SessionState → List Made → Stream → Result Effect TakeFault → Type 0
-Turns fixed play asker at session waiting new (Ok effect) = Turned fixed play asker at session waiting new effect
-Turns fixed play asker at session waiting new (Err (TooManyBuckets count)) = IsTooMuch fixed play asker session count
-Turns fixed play asker at session waiting new (Err Memory) = Unit {0}
+abbrev pub AnswersTurn : Fixed → Play → Asker → ℕ → SessionState → List Made → Stream → Result Effect TakeFault → Type 0
+AnswersTurn fixed play asker at session waiting new (Ok effect) = Turned fixed play asker at session waiting new effect
+AnswersTurn fixed play asker at session waiting new (Err (TooManyBuckets count)) = IsTooMuch fixed play asker session count
+AnswersTurn fixed play asker at session waiting new (Err Memory) = Unit {0}

@@ -4,7 +4,7 @@ use Rattle.ps_rows.specs.declared.shown.Shown.{Shown}
 use Rattle.ps_client.specs.declared.events.Differing.{Differing}
 use Rattle.ps_client.specs.declared.events.Why.{Why}
 use Rattle.ps_client.specs.declared.events.Why.TheVariants.{Queue, Pending, Target}
-use Rattle.ps_lines.specs.Writing.{IsWritable, text_of}
+use Rattle.ps_lines.specs.Writing.{IsWritable, text_of_line}
 use Rattle.ps_data.specs.Documents.{quoted_of}
 use Rattle.ps_core.specs.declared.effects.Effect.{Effect}
 use Rattle.ps_core.specs.declared.effects.Effect.TheVariants.{Fed, FedNotRising, FedClosed, Closed, Wrote, NothingToWrite, TooWide, OpsFull, Committed, NothingToCommit, Compacted, NoBucket, Client, Opened, Line, Waiting, Passed, TooMany, Nothing, Applied, Held, Refused, OutOfOrder, BadLine, NoLine, Cut, Altered, Local, Uploaded, QueueEmpty, PositionsFull, Number, NumberFull, Rows, Totals, Generation, Building, GenerationsFull, Built, NothingBuilding, NothingToBuild, NotBuilt, HalfWritten, Abandoned}
@@ -26,8 +26,8 @@ after_words [] = codes "\n"
 after_words (word ∷ words) = codes " " ++ (word ++ after_words words)
 
 -- a line: a first word, and further words
-abbrev pub line_of : List ℕ → List (List ℕ) → List ℕ
-line_of word words = word ++ after_words words
+abbrev pub words_line : List ℕ → List (List ℕ) → List ℕ
+words_line word words = word ++ after_words words
 
 -- a bucket of another total: its name, the client's total and the checkpoint's sum
 abbrev pub differing_words : Differing → List (List ℕ)
@@ -41,53 +41,53 @@ why_words (Target target number) = codes "target" ∷ decimal target ∷ codes "
 
 -- what is printed of an effect
 abbrev pub effect_text : Effect → List ℕ
-effect_text (Fed count) = line_of (codes "fed") (decimal count ∷ [])
-effect_text (FedNotRising count last given) = line_of (codes "fed") (decimal count ∷ codes "not-rising" ∷ decimal last.0 ∷ decimal given.0 ∷ [])
-effect_text (FedClosed count) = line_of (codes "fed") (decimal count ∷ codes "closed" ∷ [])
-effect_text Closed = line_of (codes "closed") []
-effect_text (Wrote changes last_op) = line_of (codes "wrote") (decimal changes ∷ codes "last" ∷ decimal last_op.0 ∷ [])
-effect_text NothingToWrite = line_of (codes "nothing to write") []
-effect_text (TooWide count) = line_of (codes "too wide") (decimal count ∷ [])
-effect_text (OpsFull last) = line_of (codes "operations full") (decimal last.0 ∷ [])
-effect_text (Committed checkpoint) = line_of (codes "checkpoint") (decimal checkpoint.position.0 ∷ decimal checkpoint.op.0 ∷ [])
-effect_text NothingToCommit = line_of (codes "nothing to commit") []
+effect_text (Fed count) = words_line (codes "fed") (decimal count ∷ [])
+effect_text (FedNotRising count last given) = words_line (codes "fed") (decimal count ∷ codes "not-rising" ∷ decimal last.0 ∷ decimal given.0 ∷ [])
+effect_text (FedClosed count) = words_line (codes "fed") (decimal count ∷ codes "closed" ∷ [])
+effect_text Closed = words_line (codes "closed") []
+effect_text (Wrote changes last_op) = words_line (codes "wrote") (decimal changes ∷ codes "last" ∷ decimal last_op.0 ∷ [])
+effect_text NothingToWrite = words_line (codes "nothing to write") []
+effect_text (TooWide count) = words_line (codes "too wide") (decimal count ∷ [])
+effect_text (OpsFull last) = words_line (codes "operations full") (decimal last.0 ∷ [])
+effect_text (Committed checkpoint) = words_line (codes "checkpoint") (decimal checkpoint.position.0 ∷ decimal checkpoint.op.0 ∷ [])
+effect_text NothingToCommit = words_line (codes "nothing to commit") []
 effect_text (Compacted report) =
-    line_of (codes "moved") (decimal report.moved ∷ codes "cleared" ∷ decimal report.cleared ∷ codes "before" ∷ decimal report.before ∷ codes "after" ∷ decimal report.after ∷ [])
-effect_text NoBucket = line_of (codes "no bucket") []
-effect_text (Client name) = line_of (codes "client") (name ∷ [])
-effect_text (Opened name) = line_of (codes "open") (name ∷ [])
-effect_text (Line line) = text_of line
-effect_text Waiting = line_of (codes "waiting") []
-effect_text (Passed op) = line_of (codes "passed") (decimal op.0 ∷ [])
-effect_text (TooMany count) = line_of (codes "too many") (decimal count ∷ [])
-effect_text Nothing = line_of (codes "nothing") []
-effect_text (Applied op) = line_of (codes "applied") (decimal op.0 ∷ [])
-effect_text (Held why) = line_of (codes "held") (why_words why)
-effect_text (Refused buckets) = line_of (codes "refused") (flat_map differing_words buckets)
-effect_text OutOfOrder = line_of (codes "out of order") []
-effect_text BadLine = line_of (codes "bad line") []
-effect_text NoLine = line_of (codes "no line") []
-effect_text (Cut name) = line_of (codes "cut") (name ∷ [])
-effect_text Altered = line_of (codes "altered") []
-effect_text (Local name) = line_of (codes "local") (name ∷ [])
-effect_text (Uploaded position) = line_of (codes "uploaded") (decimal position.0 ∷ [])
-effect_text QueueEmpty = line_of (codes "queue empty") []
-effect_text (PositionsFull head) = line_of (codes "positions full") (decimal head.0 ∷ [])
-effect_text (Number number head) = line_of (codes "number") (decimal number ∷ codes "head" ∷ decimal head.0 ∷ [])
-effect_text (NumberFull last) = line_of (codes "number full") (decimal last ∷ [])
-effect_text (Rows rows) = line_of (codes "rows") (decimal (length rows) ∷ []) ++ rows_text rows
+    words_line (codes "moved") (decimal report.moved ∷ codes "cleared" ∷ decimal report.cleared ∷ codes "before" ∷ decimal report.before ∷ codes "after" ∷ decimal report.after ∷ [])
+effect_text NoBucket = words_line (codes "no bucket") []
+effect_text (Client name) = words_line (codes "client") (name ∷ [])
+effect_text (Opened name) = words_line (codes "open") (name ∷ [])
+effect_text (Line line) = text_of_line line
+effect_text Waiting = words_line (codes "waiting") []
+effect_text (Passed op) = words_line (codes "passed") (decimal op.0 ∷ [])
+effect_text (TooMany count) = words_line (codes "too many") (decimal count ∷ [])
+effect_text Nothing = words_line (codes "nothing") []
+effect_text (Applied op) = words_line (codes "applied") (decimal op.0 ∷ [])
+effect_text (Held why) = words_line (codes "held") (why_words why)
+effect_text (Refused buckets) = words_line (codes "refused") (flat_map differing_words buckets)
+effect_text OutOfOrder = words_line (codes "out of order") []
+effect_text BadLine = words_line (codes "bad line") []
+effect_text NoLine = words_line (codes "no line") []
+effect_text (Cut name) = words_line (codes "cut") (name ∷ [])
+effect_text Altered = words_line (codes "altered") []
+effect_text (Local name) = words_line (codes "local") (name ∷ [])
+effect_text (Uploaded position) = words_line (codes "uploaded") (decimal position.0 ∷ [])
+effect_text QueueEmpty = words_line (codes "queue empty") []
+effect_text (PositionsFull head) = words_line (codes "positions full") (decimal head.0 ∷ [])
+effect_text (Number number head) = words_line (codes "number") (decimal number ∷ codes "head" ∷ decimal head.0 ∷ [])
+effect_text (NumberFull last) = words_line (codes "number full") (decimal last ∷ [])
+effect_text (Rows rows) = words_line (codes "rows") (decimal (length rows) ∷ []) ++ rows_text rows
 effect_text (Totals totals) =
-    line_of (codes "transactions") (decimal totals.transactions ∷ codes "changes" ∷ decimal totals.changes ∷ codes "operations" ∷ decimal totals.operations ∷ codes "buckets" ∷ decimal totals.buckets
+    words_line (codes "transactions") (decimal totals.transactions ∷ codes "changes" ∷ decimal totals.changes ∷ codes "operations" ∷ decimal totals.operations ∷ codes "buckets" ∷ decimal totals.buckets
     ∷ codes "sum" ∷ decimal totals.sum.0 ∷ [])
-effect_text (Generation generation) = line_of (codes "generation") (decimal generation ∷ [])
-effect_text (Building generation) = line_of (codes "building") (decimal generation ∷ [])
-effect_text (GenerationsFull last) = line_of (codes "generations full") (decimal last ∷ [])
-effect_text (Built built) = line_of (codes "built") (decimal built.changes ∷ codes "last" ∷ decimal built.last_op.0 ∷ codes "left" ∷ decimal built.left ∷ [])
-effect_text NothingBuilding = line_of (codes "nothing building") []
-effect_text NothingToBuild = line_of (codes "nothing to build") []
-effect_text (NotBuilt left) = line_of (codes "not built") (decimal left ∷ [])
-effect_text (HalfWritten changes) = line_of (codes "half written") (decimal changes ∷ [])
-effect_text (Abandoned generation) = line_of (codes "abandoned") (decimal generation ∷ [])
+effect_text (Generation generation) = words_line (codes "generation") (decimal generation ∷ [])
+effect_text (Building generation) = words_line (codes "building") (decimal generation ∷ [])
+effect_text (GenerationsFull last) = words_line (codes "generations full") (decimal last ∷ [])
+effect_text (Built built) = words_line (codes "built") (decimal built.changes ∷ codes "last" ∷ decimal built.last_op.0 ∷ codes "left" ∷ decimal built.left ∷ [])
+effect_text NothingBuilding = words_line (codes "nothing building") []
+effect_text NothingToBuild = words_line (codes "nothing to build") []
+effect_text (NotBuilt left) = words_line (codes "not built") (decimal left ∷ [])
+effect_text (HalfWritten changes) = words_line (codes "half written") (decimal changes ∷ [])
+effect_text (Abandoned generation) = words_line (codes "abandoned") (decimal generation ∷ [])
 
 -- an effect has a text where its line, if it has one, may be written
 abbrev pub IsPrintable : Effect → Type 0

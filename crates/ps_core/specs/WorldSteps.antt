@@ -7,7 +7,7 @@ use Rattle.ps_script.specs.declared.faults.ScriptFault.TheVariants.{BadEvent, Un
 use Rattle.ps_core.specs.declared.effects.Effect.{Effect}
 use Rattle.ps_core.specs.Plays.{Play, Outcome}
 use Rattle.ps_core.specs.PlaySteps.{Comes, refusal}
-use Rattle.ps_core.specs.PlayHeadline.{AreLed, IsRight}
+use Rattle.ps_core.specs.PlayHeadline.{AreLed, IsRightOutcome}
 use Rattle.ps_core.specs.declared.worlds.World.{World}
 use Rattle.ps_core.specs.Texts.{IsPrintable}
 use Rattle.ps_core.specs.Worlds.{WorldStandsFor}
@@ -23,7 +23,7 @@ pub record Went (fixed : Fixed) (play : Play) (event : ScriptEvent) (new : World
 -- besides, where no client was led wrong before it, none is after it, and what is said is right
 pub record Gave (fixed : Fixed) (play : Play) (event : ScriptEvent) (new : World) (effect : Effect) : Type 0 where
   pub went : Went fixed play event new effect
-  pub led : AreLed fixed play → AreLed fixed went.outcome.play × IsRight fixed play event went.outcome
+  pub led : AreLed fixed play → AreLed fixed went.outcome.play × IsRightOutcome fixed play event went.outcome
 
 -- the event may not come, and the world stands for the same play
 pub record Refused (fixed : Fixed) (play : Play) (event : ScriptEvent) (new : World) (fault : ScriptFault) : Type 0 where

@@ -11,7 +11,7 @@ ghost use Rattle.ps_store.specs.declared.stores.Store.{Store as StoreSeen};
 ghost use Rattle.ps_streams.specs.Runs.{Made};
 ghost use Rattle.ps_core.specs.Plays.{Play};
 ghost use Rattle.ps_core.specs.Altering.{altered as altered_line, altered_op, altered_ops, is_data as is_data_line};
-ghost use Rattle.ps_core.specs.Parts.{Acts, Alters, IsAt};
+ghost use Rattle.ps_core.specs.Parts.{Acts, Alters, IsClientNamed};
 ghost use Rattle.ps_core.specs.Worlds.{AreWaiting};
 
 use crate::effects::Effect;
@@ -19,7 +19,7 @@ use crate::readers::{Reader, Sent};
 use ps_bucket_log::Op;
 use ps_checksum::{Sum, add};
 use ps_data::{Items, Memory};
-use ps_lines::{Line, LineFault, lines_read_can_be_written, read_line, write_line};
+use ps_lines::{Line, LineFault, read_line, write_line};
 use ps_script::ScriptFault;
 use std::alloc::Global;
 
@@ -87,7 +87,7 @@ fn rewritten(alloc: Global, bytes: &[u8]) -> Result<Vec<u8>, Memory>
     requires { (line : LineSeen) × (line_of bytes.now ≡ Ok line) × (is_data_line line ≡ true) }
     ensures { IfOk result (λ new. (line : LineSeen) → line_of bytes.now ≡ Ok line → line_of new.items ≡ Ok (without_targets (altered_line line))) }
 {
-    lines_read_can_be_written();
+    ps_lines::laws::lines_read_can_be_written();
     match read_line(alloc, bytes) {
         Ok(line) => write_line(alloc, &altered(line)),
         Err(LineFault::Memory) => Err(Memory),
@@ -124,8 +124,8 @@ fn alter_oldest(alloc: Global, waiting: &mut [Sent]) -> Result<(), ScriptFault>
 
 // The oldest line of data that waits for the client is altered.
 pub(crate) fn alter(alloc: Global, reader: &mut Reader) -> Result<Effect, ScriptFault>
-    requires { (fixed : FixedSeen) × (play : Play) × (name : List ℕ) × (store : StoreSeen) × IsAt fixed play name store reader.old }
-    ensures { (fixed : FixedSeen) (play : Play) (name : List ℕ) (store : StoreSeen) → IsAt fixed play name store reader.old
+    requires { (fixed : FixedSeen) × (play : Play) × (name : List ℕ) × (store : StoreSeen) × IsClientNamed fixed play name store reader.old }
+    ensures { (fixed : FixedSeen) (play : Play) (name : List ℕ) (store : StoreSeen) → IsClientNamed fixed play name store reader.old
         → Acts fixed play (events.Alter name) name store reader.new result }
 {
     match &mut reader.stream {

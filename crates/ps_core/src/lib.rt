@@ -5,7 +5,7 @@ mod altering;
 mod deploying;
 mod effects;
 mod feeding;
-mod play_laws;
+pub mod laws;
 mod printing;
 mod readers;
 mod starting;
@@ -20,9 +20,6 @@ mod writable_lines;
 mod writing;
 
 pub use effects::Effect;
-pub use play_laws::{
-    plays_are_runs, plays_begin_led, plays_stay_led, plays_stay_legal, scripts_are_right,
-};
 pub use printing::print_rows;
 pub use ps_script::{ScriptEvent, ScriptFault, read_event};
 pub use texts::effect_text;

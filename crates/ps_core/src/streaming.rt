@@ -5,7 +5,7 @@ ghost use Rattle.ps_script.specs.declared.events.ScriptEvent.TheVariants as even
 ghost use Rattle.ps_store.specs.declared.fixed.Fixed.{Fixed as FixedSeen};
 ghost use Rattle.ps_store.specs.declared.stores.Store.{Store as StoreSeen};
 ghost use Rattle.ps_core.specs.Plays.{Play};
-ghost use Rattle.ps_core.specs.Parts.{Acts, CameTo, IsAt};
+ghost use Rattle.ps_core.specs.Parts.{Acts, CameTo, IsClientNamed};
 
 use crate::effects::Effect;
 use crate::readers::{Reader, Stream};
@@ -15,17 +15,16 @@ use ps_data::{Memory, Text};
 use ps_script::ScriptFault;
 use ps_session::{Session, StreamRequest};
 use ps_store::{Store, TakeFault};
-use ps_streams::{calls_make_turns, clients_answer_right};
 use std::alloc::Global;
 use std::collections::VecDeque;
 
 // A stream of the client's request begins. An older one is cut.
 pub(crate) fn open(alloc: Global, reader: &mut Reader, name: &Text) -> Result<Effect, Memory>
-    ensures { IfOk result (λ effect. (fixed : FixedSeen) (play : Play) (store : StoreSeen) → IsAt fixed play name.now store reader.old
+    ensures { IfOk result (λ effect. (fixed : FixedSeen) (play : Play) (store : StoreSeen) → IsClientNamed fixed play name.now store reader.old
         → CameTo fixed play (events.Open name.now) name.now store reader.new effect) }
 {
-    clients_answer_right();
-    calls_make_turns();
+    ps_streams::laws::clients_answer_right();
+    ps_streams::laws::calls_make_turns();
     let name = name.copy(alloc)?;
     let asker = copied(alloc, &reader.asker)?;
     let body = reader.client.request(alloc)?;
@@ -45,8 +44,8 @@ pub(crate) fn open(alloc: Global, reader: &mut Reader, name: &Text) -> Result<Ef
 
 // The client's session takes a turn. Too many buckets end the stream.
 pub(crate) fn turn(alloc: Global, store: &Store, reader: &mut Reader) -> Result<Effect, ScriptFault>
-    requires { (fixed : FixedSeen) × (play : Play) × (name : List ℕ) × IsAt fixed play name store.now reader.old }
-    ensures { (fixed : FixedSeen) (play : Play) (name : List ℕ) → IsAt fixed play name store.now reader.old
+    requires { (fixed : FixedSeen) × (play : Play) × (name : List ℕ) × IsClientNamed fixed play name store.now reader.old }
+    ensures { (fixed : FixedSeen) (play : Play) (name : List ℕ) → IsClientNamed fixed play name store.now reader.old
         → Acts fixed play (events.Turn name) name store.now reader.new result }
 {
     match &mut reader.stream {
@@ -64,7 +63,7 @@ pub(crate) fn turn(alloc: Global, store: &Store, reader: &mut Reader) -> Result<
 
 // The stream ends, and what waits of it goes.
 pub(crate) fn cut(alloc: Global, reader: &mut Reader, name: &Text) -> Result<Effect, ScriptFault>
-    ensures { (fixed : FixedSeen) (play : Play) (store : StoreSeen) → IsAt fixed play name.now store reader.old
+    ensures { (fixed : FixedSeen) (play : Play) (store : StoreSeen) → IsClientNamed fixed play name.now store reader.old
         → Acts fixed play (events.Cut name.now) name.now store reader.new result }
 {
     match &reader.stream {

@@ -8,8 +8,8 @@ ghost use Rattle.ps_script.specs.declared.events.ScriptEvent.TheVariants as even
 ghost use Rattle.ps_store.specs.declared.fixed.Fixed.{Fixed as FixedSeen};
 ghost use Rattle.ps_store.specs.declared.stores.Store.{Store as StoreSeen};
 ghost use Rattle.ps_core.specs.Plays.{Play};
-ghost use Rattle.ps_core.specs.Answers.{CanFault, IsAnswered, IsRefusing, refused_by, said_by};
-ghost use Rattle.ps_core.specs.Parts.{Acts, CameTo, IsAt};
+ghost use Rattle.ps_core.specs.Answers.{CanFault, LineIsAnswered, IsRefusing, refused_by, said_by};
+ghost use Rattle.ps_core.specs.Parts.{Acts, CameTo, IsClientNamed};
 
 use crate::effects::Effect;
 use crate::readers::Reader;
@@ -78,7 +78,7 @@ fn answer_to(
     client: &mut Client<VolatileKeeper>,
     bytes: &[u8],
 ) -> Result<Answer, Memory>
-    ensures { IfOk result (λ answer. (line : Line) → line_of bytes.now ≡ Ok line → IsAnswered (state client.old) (state client.new) line answer) }
+    ensures { IfOk result (λ answer. (line : Line) → line_of bytes.now ≡ Ok line → LineIsAnswered (state client.old) (state client.new) line answer) }
 {
     match client.take_line(alloc, bytes) {
         Ok(event) => Ok(said(event)),
@@ -88,7 +88,7 @@ fn answer_to(
 
 // The client takes the oldest line that waits. A refusal ends the stream.
 pub(crate) fn take(alloc: Global, reader: &mut Reader) -> Result<Effect, ScriptFault>
-    ensures { (fixed : FixedSeen) (play : Play) (name : List ℕ) (store : StoreSeen) → IsAt fixed play name store reader.old
+    ensures { (fixed : FixedSeen) (play : Play) (name : List ℕ) (store : StoreSeen) → IsClientNamed fixed play name store reader.old
         → Acts fixed play (events.Take name) name store reader.new result }
 {
     let sent = match &mut reader.stream {
@@ -112,7 +112,7 @@ pub(crate) fn take(alloc: Global, reader: &mut Reader) -> Result<Effect, ScriptF
 
 // The rows that the client shows.
 pub(crate) fn rows(alloc: Global, reader: &Reader) -> Result<Effect, Memory>
-    ensures { IfOk result (λ effect. (fixed : FixedSeen) (play : Play) (name : List ℕ) (store : StoreSeen) → IsAt fixed play name store reader.now
+    ensures { IfOk result (λ effect. (fixed : FixedSeen) (play : Play) (name : List ℕ) (store : StoreSeen) → IsClientNamed fixed play name store reader.now
         → CameTo fixed play (events.Rows name) name store reader.now effect) }
 {
     let rows = reader.client.rows(alloc)?;

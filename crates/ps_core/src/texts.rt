@@ -1,5 +1,5 @@
 ghost use Rattle.std.specs.Prelude.{◌≡◌, ◌++◌, ◌∷◌, [], ℕ, List, IfOk, OnOk, decimal};
-ghost use Rattle.ps_core.specs.Texts.{after_words, differing_words, effect_text as text_of_effect, line_of};
+ghost use Rattle.ps_core.specs.Texts.{after_words, differing_words, effect_text as text_of_effect, words_line};
 
 use crate::Effect;
 use crate::printing::push_rows;
@@ -13,14 +13,14 @@ use std::alloc::Global;
 
 // A line of nothing but fixed words.
 fn fixed(alloc: Global, words: &str) -> Result<Vec<u8>, Memory>
-    ensures { IfOk result (λ text. text.items ≡ line_of words.now []) }
+    ensures { IfOk result (λ text. text.items ≡ words_line words.now []) }
 {
     Ok(format!(in alloc; "{words}\n")?.into_bytes())
 }
 
 // A line of a word and a name.
 fn named(alloc: Global, word: &str, name: &Text) -> Result<Vec<u8>, Memory>
-    ensures { IfOk result (λ text. text.items ≡ line_of word.now (name.now ∷ [])) }
+    ensures { IfOk result (λ text. text.items ≡ words_line word.now (name.now ∷ [])) }
 {
     let name = name.as_str();
     Ok(format!(in alloc; "{word} {name}\n")?.into_bytes())
@@ -28,7 +28,7 @@ fn named(alloc: Global, word: &str, name: &Text) -> Result<Vec<u8>, Memory>
 
 // A line of words and a number.
 fn numbered(alloc: Global, words: &str, number: u64) -> Result<Vec<u8>, Memory>
-    ensures { IfOk result (λ text. text.items ≡ line_of words.now (decimal number ∷ [])) }
+    ensures { IfOk result (λ text. text.items ≡ words_line words.now (decimal number ∷ [])) }
 {
     Ok(format!(in alloc; "{words} {number}\n")?.into_bytes())
 }

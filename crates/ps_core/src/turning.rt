@@ -8,7 +8,7 @@ ghost use Rattle.ps_streams.specs.Runs.{Made, made_by};
 ghost use Rattle.ps_streams.specs.Turning.{IsWritableOutcome, line_in};
 ghost use Rattle.ps_core.specs.Plays.{Play};
 ghost use Rattle.ps_core.specs.Texts.{IsPrintable};
-ghost use Rattle.ps_core.specs.Streams.{IsStream, Turns, effect_of};
+ghost use Rattle.ps_core.specs.Streams.{IsStream, AnswersTurn, effect_of};
 ghost use Rattle.ps_core.specs.Worlds.{AreWaiting};
 
 use crate::altering::is_data;
@@ -17,7 +17,7 @@ use crate::readers::{Sent, Stream};
 use crate::writable_lines::WritableLine;
 use ps_data::Memory;
 use ps_lines::write_line;
-use ps_store::{Store, TakeFault, places_are_fronts};
+use ps_store::{Store, TakeFault};
 use ps_streams::{TurnOutcome, take_turn_of};
 use std::alloc::Global;
 use std::collections::VecDeque;
@@ -54,9 +54,9 @@ pub(crate) fn advance(
         × IsStream fixed play store.now asker stream.old at session waiting }
     ensures { (fixed : FixedSeen) (play : Play) (asker : Asker) (at : ℕ) (session : SessionState) (waiting : List Made)
         → IsStream fixed play store.now asker stream.old at session waiting
-        → Turns fixed play asker at session waiting stream.new result }
+        → AnswersTurn fixed play asker at session waiting stream.new result }
 {
-    places_are_fronts();
+    ps_store::laws::places_are_fronts();
     let outcome = take_turn_of(alloc, store, &mut stream.session)?;
     let effect = send(alloc, &mut stream.waiting, outcome)?;
     Ok(effect)

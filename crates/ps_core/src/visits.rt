@@ -3,7 +3,7 @@
 ghost use Rattle.std.specs.Prelude.{◌≡◌};
 ghost use Rattle.ps_store.specs.declared.fixed.Fixed.{Fixed as FixedSeen};
 ghost use Rattle.ps_core.specs.Plays.{Play};
-ghost use Rattle.ps_core.specs.Parts.{Acts, HasTable, IsAt, event_of, faulted};
+ghost use Rattle.ps_core.specs.Parts.{Acts, HasTable, IsClientNamed, event_of, faulted};
 
 use crate::altering::alter;
 use crate::effects::Effect;
@@ -50,8 +50,8 @@ pub(crate) fn act(
     asked: Visit<'_>,
 ) -> Result<Effect, ScriptFault>
     requires table { HasTable asked }
-    requires stands { (fixed : FixedSeen) × (play : Play) × IsAt fixed play name.now store.old reader.old }
-    ensures { (fixed : FixedSeen) (play : Play) → IsAt fixed play name.now store.old reader.old
+    requires stands { (fixed : FixedSeen) × (play : Play) × IsClientNamed fixed play name.now store.old reader.old }
+    ensures { (fixed : FixedSeen) (play : Play) → IsClientNamed fixed play name.now store.old reader.old
         → Acts fixed play (event_of name.now asked.entry) name.now store.new reader.new result }
 {
     match asked {

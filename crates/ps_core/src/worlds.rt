@@ -1,5 +1,5 @@
 ghost use Rattle.std.specs.Prelude.{◌≡◌, true, Err, IfOk};
-ghost use Rattle.ps_core.specs.Readers.{HasBegun};
+ghost use Rattle.ps_core.specs.Readers.{ClientHasBegun};
 ghost use Rattle.ps_store.specs.declared.fixed.Fixed.{Fixed as FixedSeen};
 ghost use Rattle.ps_store.specs.Limits.{usual_limits};
 ghost use Rattle.ps_core.specs.Plays.{Play, first_play};
@@ -13,7 +13,7 @@ ghost use Rattle.ps_core.specs.Worlds.{IsWorld, WorldStandsFor};
 use crate::deploying::{abandon, build, deploy, switch};
 use crate::effects::Effect;
 use crate::feeding::feed;
-use crate::play_laws::plays_stay_led;
+use crate::laws;
 use crate::readers::Reader;
 use crate::starting::begin;
 use crate::storing::{close, commit, compact, totals, write};
@@ -23,7 +23,7 @@ use ps_definitions::Rules;
 use ps_rows::{Change, Transaction};
 use ps_script::{ScriptEvent, ScriptFault};
 use ps_sql_eval::Asker;
-use ps_store::{Limits, Store, places_are_fronts};
+use ps_store::{Limits, Store};
 use std::alloc::Global;
 use std::collections::{BTreeMap, VecDeque};
 
@@ -60,7 +60,7 @@ fn add(
     name: &Text,
     asker: &Asker,
 ) -> Result<Effect, Memory>
-    ensures { IfOk result (λ effect. HasBegun readers.old name.now asker.now readers.new effect) }
+    ensures { IfOk result (λ effect. ClientHasBegun readers.old name.now asker.now readers.new effect) }
 {
     let key = name.copy(alloc)?;
     let name = name.copy(alloc)?;
@@ -97,7 +97,7 @@ impl World {
         requires { (fixed : FixedSeen) × (play : Play) × WorldStandsFor fixed self.old play }
         ensures { (fixed : FixedSeen) (play : Play) → WorldStandsFor fixed self.old play → Goes fixed play (events.Feed count) self.new result }
     {
-        places_are_fronts();
+        ps_store::laws::places_are_fronts();
         if count < 1 || count > MOST {
             return Err(ScriptFault::BadEvent);
         }
@@ -112,7 +112,7 @@ impl World {
         requires { (fixed : FixedSeen) × (play : Play) × WorldStandsFor fixed self.old play }
         ensures { (fixed : FixedSeen) (play : Play) → WorldStandsFor fixed self.old play → Goes fixed play (events.Write limit) self.new result }
     {
-        places_are_fronts();
+        ps_store::laws::places_are_fronts();
         if limit < 1 || limit > MOST {
             return Err(ScriptFault::BadEvent);
         }
@@ -126,7 +126,7 @@ impl World {
     fn close(&mut self) -> Effect
         ensures { (fixed : FixedSeen) (play : Play) → WorldStandsFor fixed self.old play → Went fixed play events.Close self.new result }
     {
-        places_are_fronts();
+        ps_store::laws::places_are_fronts();
         close(&mut self.store)
     }
 
@@ -134,7 +134,7 @@ impl World {
     fn commit(&mut self) -> Effect
         ensures { (fixed : FixedSeen) (play : Play) → WorldStandsFor fixed self.old play → Went fixed play events.Commit self.new result }
     {
-        places_are_fronts();
+        ps_store::laws::places_are_fronts();
         commit(&mut self.store)
     }
 
@@ -142,7 +142,7 @@ impl World {
     fn compact(&mut self, alloc: Global, bucket: &Text) -> Result<Effect, ScriptFault>
         ensures { (fixed : FixedSeen) (play : Play) → WorldStandsFor fixed self.old play → Goes fixed play (events.Compact bucket.now) self.new result }
     {
-        places_are_fronts();
+        ps_store::laws::places_are_fronts();
         match compact(alloc, &mut self.store, bucket) {
             Ok(effect) => Ok(effect),
             Err(Memory) => Err(ScriptFault::Memory),
@@ -153,7 +153,7 @@ impl World {
     fn begin(&mut self, alloc: Global, name: &Text, asker: &Asker) -> Result<Effect, ScriptFault>
         ensures { (fixed : FixedSeen) (play : Play) → WorldStandsFor fixed self.old play → Goes fixed play (events.Client name.now asker.now) self.new result }
     {
-        places_are_fronts();
+        ps_store::laws::places_are_fronts();
         match self.readers.get(name) {
             Some(_) => Err(ScriptFault::WrongPhase),
             None => match add(alloc, &mut self.readers, name, asker) {
@@ -191,7 +191,7 @@ impl World {
         requires { (fixed : FixedSeen) × (play : Play) × WorldStandsFor fixed self.old play }
         ensures { (fixed : FixedSeen) (play : Play) → WorldStandsFor fixed self.old play → Goes fixed play events.Deploy self.new result }
     {
-        places_are_fronts();
+        ps_store::laws::places_are_fronts();
         match &self.next {
             None => Err(ScriptFault::WrongPhase),
             Some(next) => match deploy(alloc, &mut self.store, next) {
@@ -206,7 +206,7 @@ impl World {
         requires { (fixed : FixedSeen) × (play : Play) × WorldStandsFor fixed self.old play }
         ensures { (fixed : FixedSeen) (play : Play) → WorldStandsFor fixed self.old play → Goes fixed play (events.Build limit) self.new result }
     {
-        places_are_fronts();
+        ps_store::laws::places_are_fronts();
         if limit < 1 || limit > MOST {
             return Err(ScriptFault::BadEvent);
         }
@@ -221,7 +221,7 @@ impl World {
         requires { (fixed : FixedSeen) × (play : Play) × WorldStandsFor fixed self.old play }
         ensures { (fixed : FixedSeen) (play : Play) → WorldStandsFor fixed self.old play → Went fixed play events.Switch self.new result }
     {
-        places_are_fronts();
+        ps_store::laws::places_are_fronts();
         switch(&mut self.store)
     }
 
@@ -230,7 +230,7 @@ impl World {
         requires { (fixed : FixedSeen) × (play : Play) × WorldStandsFor fixed self.old play }
         ensures { (fixed : FixedSeen) (play : Play) → WorldStandsFor fixed self.old play → Went fixed play events.Abandon self.new result }
     {
-        places_are_fronts();
+        ps_store::laws::places_are_fronts();
         abandon(&mut self.store)
     }
 
@@ -240,7 +240,7 @@ impl World {
         requires stands { (fixed : FixedSeen) × (play : Play) × WorldStandsFor fixed self.old play }
         ensures { (fixed : FixedSeen) (play : Play) → WorldStandsFor fixed self.old play → Goes fixed play (event_of name.now asked.entry) self.new result }
     {
-        places_are_fronts();
+        ps_store::laws::places_are_fronts();
         match self.readers.get_mut(name) {
             None => Err(ScriptFault::UnknownClient),
             Some(reader) => act(alloc, &mut self.store, reader, name, asked),
@@ -286,7 +286,7 @@ impl World {
         ensures failed { self.old.failed ≡ true → (result ≡ Err faults.Memory) × (self.new.failed ≡ true) }
         ensures plays { (fixed : FixedSeen) (play : Play) → WorldStandsFor fixed self.old play → Steps fixed play event.now self.new result }
     {
-        plays_stay_led();
+        laws::plays_stay_led();
         if self.failed {
             return Err(ScriptFault::Memory);
         }

@@ -8,9 +8,9 @@ ghost use Rattle.ps_core.specs.Plays.{Play};
 ghost use Rattle.ps_client.specs.LocalWrites.{keeping};
 ghost use Rattle.ps_client.specs.States.{state};
 ghost use Rattle.ps_store.specs.Limits.{greatest};
-ghost use Rattle.ps_core.specs.ReaderEvents.{numbered};
+ghost use Rattle.ps_core.specs.ReaderEvents.{aimed_unless_waiting};
 ghost use Rattle.ps_core.specs.Writing.{NextIs};
-ghost use Rattle.ps_core.specs.Parts.{Acts, CameTo, IsAt, IsWant};
+ghost use Rattle.ps_core.specs.Parts.{Acts, CameTo, IsClientNamed, IsOutOfMemory};
 
 use crate::effects::Effect;
 use crate::readers::Reader;
@@ -18,13 +18,13 @@ use ps_client::ClientFault;
 use ps_data::{Items, Memory, Text};
 use ps_rows::Change;
 use ps_script::ScriptFault;
-use ps_store::{FeedFault, Store, places_are_fronts};
+use ps_store::{FeedFault, Store};
 use ps_write_cp::NumberFault;
 use std::alloc::Global;
 
 // Out of memory, the one fault that may come.
 fn want(fault: ClientFault) -> Memory
-    requires { IsWant fault }
+    requires { IsOutOfMemory fault }
 {
     match fault {
         ClientFault::Memory => Memory,
@@ -44,7 +44,7 @@ pub(crate) fn write_locally(
     change: &Change,
 ) -> Result<Effect, Memory>
     requires { change.now.table ≢ [] }
-    ensures { IfOk result (λ effect. (fixed : FixedSeen) (play : Play) (store : StoreSeen) → IsAt fixed play name.now store reader.old
+    ensures { IfOk result (λ effect. (fixed : FixedSeen) (play : Play) (store : StoreSeen) → IsClientNamed fixed play name.now store reader.old
         → CameTo fixed play (events.Local name.now change.now) name.now store reader.new effect) }
 {
     let name = name.copy(alloc)?;
@@ -76,11 +76,11 @@ pub(crate) fn upload(
     store: &mut Store,
     reader: &mut Reader,
 ) -> Result<Effect, Memory>
-    requires { (fixed : FixedSeen) × (play : Play) × (name : List ℕ) × IsAt fixed play name store.old reader.old }
-    ensures { IfOk result (λ effect. (fixed : FixedSeen) (play : Play) (name : List ℕ) → IsAt fixed play name store.old reader.old
+    requires { (fixed : FixedSeen) × (play : Play) × (name : List ℕ) × IsClientNamed fixed play name store.old reader.old }
+    ensures { IfOk result (λ effect. (fixed : FixedSeen) (play : Play) (name : List ℕ) → IsClientNamed fixed play name store.old reader.old
         → CameTo fixed play (events.Upload name) name store.new reader.new effect) }
 {
-    places_are_fronts();
+    ps_store::laws::places_are_fronts();
     let changes = match next_upload(alloc, reader)? {
         None => return Ok(Effect::QueueEmpty),
         Some(changes) => changes,
@@ -101,7 +101,7 @@ pub(crate) fn upload(
 // The number is the target, where no local write waits for its upload.
 fn aim(alloc: Global, reader: &mut Reader, number: u64) -> Result<(), Memory>
     requires { number ≤ greatest }
-    ensures client { OnOk result (state reader.new.client ≡ keeping (numbered (state reader.old.client).kept.queue number (state reader.old.client).kept) (state reader.old.client)) }
+    ensures client { OnOk result (state reader.new.client ≡ keeping (aimed_unless_waiting (state reader.old.client).kept.queue number (state reader.old.client).kept) (state reader.old.client)) }
     ensures asker { reader.new.asker ≡ reader.old.asker }
     ensures stream { reader.new.stream ≡ reader.old.stream }
 {
@@ -120,11 +120,11 @@ pub(crate) fn number(
     store: &mut Store,
     reader: &mut Reader,
 ) -> Result<Effect, ScriptFault>
-    requires { (fixed : FixedSeen) × (play : Play) × (name : List ℕ) × IsAt fixed play name store.old reader.old }
-    ensures { (fixed : FixedSeen) (play : Play) (name : List ℕ) → IsAt fixed play name store.old reader.old
+    requires { (fixed : FixedSeen) × (play : Play) × (name : List ℕ) × IsClientNamed fixed play name store.old reader.old }
+    ensures { (fixed : FixedSeen) (play : Play) (name : List ℕ) → IsClientNamed fixed play name store.old reader.old
         → Acts fixed play (events.Number name) name store.new reader.new result }
 {
-    places_are_fronts();
+    ps_store::laws::places_are_fronts();
     let client = match &reader.asker.client {
         None => return Err(ScriptFault::WrongPhase),
         Some(client) => client,

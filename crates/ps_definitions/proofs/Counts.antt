@@ -4,7 +4,7 @@ use Rattle.ps_queries.specs.declared.expressions.Expr.{Expr}
 use Rattle.ps_queries.specs.declared.expressions.Expr.TheVariants as exprs
 use Rattle.ps_queries.specs.declared.expressions.Operator.TheVariants as operators
 use Rattle.ps_definitions.specs.declared.branches.Branch.{Branch}
-use Rattle.ps_definitions.specs.Branches.{joined, crossed, branches_in}
+use Rattle.ps_definitions.specs.Branches.{joined_branches, crossed, branches_in}
 use Rattle.std.specs.Prelude.{not}
 use Rattle.ps_queries.specs.declared.expressions.Operator.{Operator}
 use Rattle.ps_definitions.specs.Laws.{is_leaf, is_leaf_layer, is_spread, is_either}
@@ -17,8 +17,8 @@ length_map f (x ∷ xs) = ap suc (length_map f xs)
 length_crossed : (xs ys : List Branch) → length (crossed xs ys) ≡ length xs * length ys
 length_crossed xs [] = omega arith
 length_crossed xs (y ∷ ys) =
-    let here = length_map (λ (x : Branch). joined x y) xs in
-    let both = length-append (map (λ (x : Branch). joined x y) xs) (crossed xs ys) in
+    let here = length_map (λ (x : Branch). joined_branches x y) xs in
+    let both = length-append (map (λ (x : Branch). joined_branches x y) xs) (crossed xs ys) in
     let there = length_crossed xs ys in
     let step : length xs * suc (length ys) ≡ length xs + length xs * length ys = omega arith in
     both ∙ ap (λ n. n + length (crossed xs ys)) here ∙ ap (λ n. length xs + n) there ∙ sym step

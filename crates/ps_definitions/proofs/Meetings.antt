@@ -9,17 +9,17 @@ use Rattle.ps_data.specs.declared.values.Value.TheVariants.{Null, Int, Text}
 use Rattle.ps_data.specs.declared.values.Truth.{Truth}
 use Rattle.ps_data.specs.declared.values.Truth.TheVariants.{True, False, Unknown}
 use Rattle.ps_data.specs.Values.{truth_of, equal_sql}
-use Rattle.ps_data.specs.Conversions.{value_of as json_value}
+use Rattle.ps_data.specs.Conversions.{json_value as json_value}
 use Rattle.ps_values.specs.Laws.{IsEqualWherePresent}
 use Rattle.ps_queries.specs.declared.expressions.Expr.{Expr, Expr-F, fold-roll-Expr, map-Expr, out-Expr, roll-Expr, roll-out-Expr, out-roll-Expr, ind-Expr}
 use Rattle.ps_queries.specs.declared.expressions.Expr.TheOpen as layers
 use Rattle.ps_queries.specs.declared.expressions.Expr.TheVariants as exprs
 use Rattle.ps_queries.specs.declared.expressions.Operator.{Operator}
 use Rattle.ps_queries.specs.declared.expressions.Operator.TheVariants as operators
-use Rattle.ps_queries.specs.Meaning.{Given, value_of, layer_value, two_value, truth_value, least, greatest, is_true, bool_value, any_equals, array_of, within_items, holds}
+use Rattle.ps_queries.specs.Meaning.{Given, value_of, layer_value, two_value, truth_value, least, greatest_truth, is_true, bool_value, any_equals, array_of, within_items, holds}
 use Rattle.ps_definitions.specs.declared.matches.Match.{Match}
 use Rattle.ps_definitions.specs.declared.branches.Branch.{Branch}
-use Rattle.ps_definitions.specs.Branches.{match_of_side, match_of_sides, match_of_layer, match_of, branch_with, leaf_branch, joined, crossed, branches_in, has_parameter}
+use Rattle.ps_definitions.specs.Branches.{match_of_side, match_of_sides, match_of_layer, match_of, branch_with, leaf_branch, joined_branches, crossed, branches_in, has_parameter}
 use Rattle.ps_definitions.specs.Meeting.{is_among, allows, meets, meets_some}
 use Rattle.ps_definitions.specs.Laws.{is_leaf_layer, is_leaf, HoldsWhereMet, SameTest, NullIsNotAllowed}
 use Rattle.ps_definitions.proofs.Spreads.{branches-Or, branches-And, branches-leaf}
@@ -49,7 +49,7 @@ truth_back True = refl
 truth_back False = refl
 truth_back Unknown = refl
 
-true_greatest : (a b : Truth) → is_true (greatest a b) ≡ (is_true a || is_true b)
+true_greatest : (a b : Truth) → is_true (greatest_truth a b) ≡ (is_true a || is_true b)
 true_greatest True True = refl
 true_greatest True False = refl
 true_greatest True Unknown = refl
@@ -167,7 +167,7 @@ module _ (given : Given) where
 
   pub holds-Or : (left right : Expr) → one_holds (exprs.Two operators.Or left right) ≡ (one_holds left || one_holds right)
   holds-Or left right = ap (λ v. is_true (truth_of v)) (value-Two operators.Or left right)
-      ∙ truth_back (greatest (truth_of (value_of given left)) (truth_of (value_of given right)))
+      ∙ truth_back (greatest_truth (truth_of (value_of given left)) (truth_of (value_of given right)))
       ∙ true_greatest (truth_of (value_of given left)) (truth_of (value_of given right))
 
   pub holds-And : (left right : Expr) → one_holds (exprs.Two operators.And left right) ≡ (one_holds left && one_holds right)
@@ -246,23 +246,23 @@ module _ (given : Given) where
 
   -- ---- branches
 
-  meets_joined : (a b : Branch) → meets given (joined a b) ≡ (meets given a && meets given b)
+  meets_joined : (a b : Branch) → meets given (joined_branches a b) ≡ (meets given a && meets given b)
   meets_joined a b =
       ap (λ t. t && list_all one_holds (a.rest ++ b.rest)) (all_append (allows given) a.matches b.matches)
       ∙ ap (λ t. (list_all (allows given) a.matches && list_all (allows given) b.matches) && t) (all_append one_holds a.rest b.rest)
       ∙ swapped (list_all (allows given) a.matches) (list_all (allows given) b.matches) (list_all one_holds a.rest) (list_all one_holds b.rest)
 
-  meets_map : (xs : List Branch) (y : Branch) → meets_some given (map (λ (x : Branch). joined x y) xs) ≡ (meets_some given xs && meets given y)
+  meets_map : (xs : List Branch) (y : Branch) → meets_some given (map (λ (x : Branch). joined_branches x y) xs) ≡ (meets_some given xs && meets given y)
   meets_map [] y = refl
   meets_map (x ∷ xs) y =
-      ap (λ t. t || meets_some given (map (λ (z : Branch). joined z y) xs)) (meets_joined x y)
+      ap (λ t. t || meets_some given (map (λ (z : Branch). joined_branches z y) xs)) (meets_joined x y)
       ∙ ap (λ t. (meets given x && meets given y) || t) (meets_map xs y)
       ∙ sym (or_and (meets given x) (meets_some given xs) (meets given y))
 
   meets_crossed : (xs ys : List Branch) → meets_some given (crossed xs ys) ≡ (meets_some given xs && meets_some given ys)
   meets_crossed xs [] = sym (and_false (meets_some given xs))
   meets_crossed xs (y ∷ ys) =
-      any_append (meets given) (map (λ (x : Branch). joined x y) xs) (crossed xs ys)
+      any_append (meets given) (map (λ (x : Branch). joined_branches x y) xs) (crossed xs ys)
       ∙ ap (λ t. t || meets_some given (crossed xs ys)) (meets_map xs y)
       ∙ ap (λ t. (meets_some given xs && meets given y) || t) (meets_crossed xs ys)
       ∙ sym (and_or (meets_some given xs) (meets given y) (meets_some given ys))

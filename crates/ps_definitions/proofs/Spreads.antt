@@ -9,7 +9,7 @@ use Rattle.ps_queries.specs.declared.expressions.Expr.TheVariants as exprs
 use Rattle.ps_queries.specs.declared.expressions.Operator.{Operator}
 use Rattle.ps_queries.specs.declared.expressions.Operator.TheVariants as operators
 use Rattle.ps_definitions.specs.declared.branches.Branch.{Branch}
-use Rattle.ps_definitions.specs.Branches.{Rooted, branches_with, spread_between, layer_spread, spread, branches_in, leaf_branch, joined, crossed}
+use Rattle.ps_definitions.specs.Branches.{Rooted, branches_with, spread_between, layer_spread, spread, branches_in, leaf_branch, joined_branches, crossed}
 use Rattle.ps_definitions.specs.Laws.{is_spread, is_leaf_layer, is_leaf}
 
 -- an expression with what is spread at its root
@@ -68,29 +68,29 @@ branches-leaf leaf h = ap (branches_with leaf) (spread_out leaf ∙ layer_none (
 -- ---- each branch with each of several lists
 
 pub crossed-append : (xs ys zs : List Branch) → crossed xs (ys ++ zs) ≡ crossed xs ys ++ crossed xs zs
-crossed-append xs ys zs = flat_map-append (λ (y : Branch). map (λ (x : Branch). joined x y) xs) ys zs
+crossed-append xs ys zs = flat_map-append (λ (y : Branch). map (λ (x : Branch). joined_branches x y) xs) ys zs
 
-joined_assoc : (a b c : Branch) → joined (joined a b) c ≡ joined a (joined b c)
+joined_assoc : (a b c : Branch) → joined_branches (joined_branches a b) c ≡ joined_branches a (joined_branches b c)
 joined_assoc a b c = λ i. record { matches = append_assoc a.matches b.matches c.matches i; rest = append_assoc a.rest b.rest c.rest i }
 
 -- a branch behind each of those that are each of xs with y
-joined_map : (xs : List Branch) (y z : Branch) → map (λ (x : Branch). joined x z) (map (λ (x : Branch). joined x y) xs) ≡ map (λ (x : Branch). joined x (joined y z)) xs
+joined_map : (xs : List Branch) (y z : Branch) → map (λ (x : Branch). joined_branches x z) (map (λ (x : Branch). joined_branches x y) xs) ≡ map (λ (x : Branch). joined_branches x (joined_branches y z)) xs
 joined_map [] y z = refl
 joined_map (x ∷ xs) y z = λ i. joined_assoc x y z i ∷ joined_map xs y z i
 
-crossed_each : (xs ys : List Branch) (z : Branch) → crossed xs (map (λ (y : Branch). joined y z) ys) ≡ map (λ (x : Branch). joined x z) (crossed xs ys)
+crossed_each : (xs ys : List Branch) (z : Branch) → crossed xs (map (λ (y : Branch). joined_branches y z) ys) ≡ map (λ (x : Branch). joined_branches x z) (crossed xs ys)
 crossed_each xs [] z = refl
 crossed_each xs (y ∷ ys) z =
-    ap (λ r. map (λ (x : Branch). joined x (joined y z)) xs ++ r) (crossed_each xs ys z)
-    ∙ ap (λ l. l ++ map (λ (x : Branch). joined x z) (crossed xs ys)) (sym (joined_map xs y z))
-    ∙ sym (map-append (λ (x : Branch). joined x z) (map (λ (x : Branch). joined x y) xs) (crossed xs ys))
+    ap (λ r. map (λ (x : Branch). joined_branches x (joined_branches y z)) xs ++ r) (crossed_each xs ys z)
+    ∙ ap (λ l. l ++ map (λ (x : Branch). joined_branches x z) (crossed xs ys)) (sym (joined_map xs y z))
+    ∙ sym (map-append (λ (x : Branch). joined_branches x z) (map (λ (x : Branch). joined_branches x y) xs) (crossed xs ys))
 
 pub crossed-crossed : (xs ys zs : List Branch) → crossed (crossed xs ys) zs ≡ crossed xs (crossed ys zs)
 crossed-crossed xs ys [] = refl
 crossed-crossed xs ys (z ∷ zs) =
-    ap (λ r. map (λ (x : Branch). joined x z) (crossed xs ys) ++ r) (crossed-crossed xs ys zs)
+    ap (λ r. map (λ (x : Branch). joined_branches x z) (crossed xs ys) ++ r) (crossed-crossed xs ys zs)
     ∙ ap (λ l. l ++ crossed xs (crossed ys zs)) (sym (crossed_each xs ys z))
-    ∙ sym (crossed-append xs (map (λ (y : Branch). joined y z) ys) (crossed ys zs))
+    ∙ sym (crossed-append xs (map (λ (y : Branch). joined_branches y z) ys) (crossed ys zs))
 
 abbrev pub no_leaves : Branch
 no_leaves = record { matches = []; rest = [] }
@@ -112,7 +112,7 @@ append_nil : (xs : List Branch) → xs ++ [] ≡ xs
 append_nil [] = refl
 append_nil (x ∷ xs) = ap (λ r. x ∷ r) (append_nil xs)
 
-pub onto_leaf : (xs : List Branch) (leaf : Expr) → is_leaf leaf ≡ true → crossed xs (branches_in leaf) ≡ map (λ (x : Branch). joined x (leaf_branch leaf)) xs
-onto_leaf xs leaf h = ap (crossed xs) (branches-leaf leaf h) ∙ append_nil (map (λ (x : Branch). joined x (leaf_branch leaf)) xs)
+pub onto_leaf : (xs : List Branch) (leaf : Expr) → is_leaf leaf ≡ true → crossed xs (branches_in leaf) ≡ map (λ (x : Branch). joined_branches x (leaf_branch leaf)) xs
+onto_leaf xs leaf h = ap (crossed xs) (branches-leaf leaf h) ∙ append_nil (map (λ (x : Branch). joined_branches x (leaf_branch leaf)) xs)
 
 pub ruleset onto = (onto-Or, onto-And, onto_leaf)

@@ -72,12 +72,12 @@ unfoldable pub leaf_branch : Expr → Branch
 leaf_branch leaf = branch_with leaf (match_of leaf)
 
 -- all leaves of two branches
-abbrev pub joined : Branch → Branch → Branch
-joined a b = record { matches = a.matches ++ b.matches; rest = a.rest ++ b.rest }
+abbrev pub joined_branches : Branch → Branch → Branch
+joined_branches a b = record { matches = a.matches ++ b.matches; rest = a.rest ++ b.rest }
 
 -- each branch of the first list with each of the second
 abbrev pub crossed : List Branch → List Branch → List Branch
-crossed xs ys = flat_map (λ (y : Branch). map (λ (x : Branch). joined x y) xs) ys
+crossed xs ys = flat_map (λ (y : Branch). map (λ (x : Branch). joined_branches x y) xs) ys
 
 -- an expression, and its branches where AND or OR stands at its root
 abbrev pub Rooted : Type 0

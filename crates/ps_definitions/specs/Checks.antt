@@ -19,9 +19,9 @@ abbrev pub some_expr : (Expr → Bool) → List Output → Option Expr → Bool
 some_expr test outputs condition = list_any (λ (o : Output). test o.expr) outputs || in_condition test condition
 
 -- the names of parameters are those of the first query's outputs
-abbrev pub names_of : List ParameterQuery → List (List ℕ)
-names_of [] = []
-names_of (first ∷ others) = output_names first.outputs
+abbrev pub names_of_parameters : List ParameterQuery → List (List ℕ)
+names_of_parameters [] = []
+names_of_parameters (first ∷ others) = output_names first.outputs
 
 -- neither `*` nor an output `id`
 abbrev pub has_no_id : DataQuery → Bool

@@ -9,7 +9,7 @@ use Rattle.ps_definitions.specs.declared.definitions.Definition.{Definition}
 use Rattle.ps_definitions.specs.declared.warnings.Warning.{Warning}
 use Rattle.ps_definitions.specs.Names.{is_definition_name, has_repeated, same_names, output_names}
 use Rattle.ps_definitions.specs.Branches.{branches_of}
-use Rattle.ps_definitions.specs.Checks.{names_of, has_no_id, has_unknown, has_many_branches, is_matched}
+use Rattle.ps_definitions.specs.Checks.{names_of_parameters, has_no_id, has_unknown, has_many_branches, is_matched}
 
 -- definitions in the order of the file, and warnings in the order of their places
 pub record RuleSet : Type 0 where
@@ -32,9 +32,9 @@ pub record IsSoundQuery (names : List (List ℕ)) (planned : Planned) : Type 0 w
   pub branches : planned.branches ≡ branches_of planned.query.condition
   pub no_asker : query_speaks subjects.Asker planned.query.outputs planned.query.condition ≡ false
 
-pub record IsSound (definition : Definition) : Type 0 where
+pub record IsSoundDefinition (definition : Definition) : Type 0 where
   pub name : is_definition_name definition.name ≡ true
-  pub names : definition.names ≡ names_of definition.parameters
+  pub names : definition.names ≡ names_of_parameters definition.parameters
   pub parameters : AllByRecursion (IsSoundParameter definition.names) definition.parameters
   pub queries : AllByRecursion (IsSoundQuery definition.names) definition.queries
 
@@ -44,8 +44,8 @@ rises_past before [] = true
 rises_past before (n ∷ ns) = nat_lt before n && rises_past n ns
 
 -- the numbers of all data queries, in order
-abbrev pub numbers_of : List Definition → List ℕ
-numbers_of definitions = flat_map (λ (d : Definition). map (λ (q : Planned). q.number) d.queries) definitions
+abbrev pub all_query_numbers : List Definition → List ℕ
+all_query_numbers definitions = flat_map (λ (d : Definition). map (λ (q : Planned). q.number) d.queries) definitions
 
 -- the lines of warnings rise, from 1 on: no two warnings stand on one line
 abbrev pub WarningsRise : List Warning → Type 0
@@ -54,5 +54,5 @@ WarningsRise warnings = rises_past 0 (map (λ (w : Warning). w.line) warnings) �
 -- what each rule set keeps
 pub record AreRules (rules : RuleSet) : Type 0 where
   pub names_differ : has_repeated (map (λ (d : Definition). d.name) rules.definitions) ≡ false
-  pub sound : AllByRecursion IsSound rules.definitions
-  pub numbers_rise : rises_past 0 (numbers_of rules.definitions) ≡ true
+  pub sound : AllByRecursion IsSoundDefinition rules.definitions
+  pub numbers_rise : rises_past 0 (all_query_numbers rules.definitions) ≡ true

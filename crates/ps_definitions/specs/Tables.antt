@@ -27,7 +27,7 @@ abbrev pub places_of : List Definition → List ℕ → List QueryPlace
 places_of definitions table = places_from table 0 definitions
 
 -- a data query stands at a place, in a definition
-pub record IsAt (definitions : List Definition) (place : QueryPlace) (definition : Definition) (planned : Planned) : Type 0 where
+pub record IsQueryAt (definitions : List Definition) (place : QueryPlace) (definition : Definition) (planned : Planned) : Type 0 where
   pub of_rules : slice_get definitions place.definition ≡ Some definition
   pub of_definition : slice_get definition.queries place.query ≡ Some planned
 
@@ -35,7 +35,7 @@ pub record IsAt (definitions : List Definition) (place : QueryPlace) (definition
 pub record HasQuery (definitions : List Definition) (table : List ℕ) (place : QueryPlace) : Type 0 where
   pub definition : Definition
   pub planned : Planned
-  pub there : IsAt definitions place definition planned
+  pub there : IsQueryAt definitions place definition planned
   pub of_table : bytes_eq planned.query.table table ≡ true
 
 abbrev pub is_table : List ℕ → Option (List ℕ) → Bool

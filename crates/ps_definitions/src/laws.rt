@@ -2,8 +2,6 @@
 
 ghost use Rattle.ps_definitions.specs.Laws.{EitherSide, BothSides, LeafAlone, HoldsWhereMet, SameTest, NullIsNotAllowed, NamesDiffer};
 
-use ps_values::equal_where_both_are_present;
-
 /// A law: the branches of OR are those of both sides, those of AND are each of the left side with each of the right,
 /// and any other expression is one branch by itself.
 pub fn spread_as_written()
@@ -18,7 +16,7 @@ pub fn conditions_hold_where_a_branch_is_met()
     ensures holds { HoldsWhereMet }
     ensures same { SameTest }
 {
-    equal_where_both_are_present();
+    ps_values::laws::equal_where_both_are_present();
 }
 
 /// A law: no match allows Null.

@@ -5,7 +5,7 @@
 mod branches;
 mod copies;
 mod definitions;
-mod laws;
+pub mod laws;
 mod matches;
 mod naming;
 mod queries;
@@ -16,10 +16,6 @@ mod warnings;
 
 pub use branches::Branch;
 pub use definitions::Definition;
-pub use laws::{
-    conditions_hold_where_a_branch_is_met, names_are_distinct, null_is_not_allowed,
-    spread_as_written,
-};
 pub use matches::Match;
 pub use naming::{bucket_name, have_64_bits};
 pub use queries::Planned;

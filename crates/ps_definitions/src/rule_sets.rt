@@ -1,7 +1,7 @@
 ghost use Rattle.std.specs.Prelude.{◌≡◌, ℕ, List, IfOk};
 ghost use Rattle.std.specs.List.{AllByRecursion};
 ghost use Rattle.ps_definitions.specs.RuleSets.{AreRules};
-ghost use Rattle.ps_definitions.specs.Tables.{places_of, is_read, HasQuery, IsAt};
+ghost use Rattle.ps_definitions.specs.Tables.{places_of, is_read, HasQuery, IsQueryAt};
 
 use crate::tables::Tables;
 use crate::{Definition, Planned, QueryPlace, Warning};
@@ -82,7 +82,7 @@ impl Rules {
     #[tactic(auto, using(crate::proofs::Tabled::got_within))]
     pub fn query_at(&self, place: &QueryPlace) -> (&Definition, &Planned)
         requires { (table : List ℕ) × HasQuery self.now.definitions table place.now }
-        ensures { IsAt self.now.definitions place.now result.0.now result.1.now }
+        ensures { IsQueryAt self.now.definitions place.now result.0.now result.1.now }
     {
         let definition = &self.definitions.as_slice()[place.definition];
         (definition, &definition.queries.as_slice()[place.query])

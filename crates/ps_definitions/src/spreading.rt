@@ -2,7 +2,7 @@
 
 ghost use Rattle.std.specs.Prelude.{◌≡◌, ◌<◌, ◌++◌, IfOk, Some, None, map, length, min};
 ghost use Rattle.ps_definitions.specs.declared.branches.Branch.{Branch as BranchData};
-ghost use Rattle.ps_definitions.specs.Branches.{match_of as match_in, match_of_side, match_of_sides, leaf_branch, joined, crossed, branches_in, branches_of as branches_in_condition};
+ghost use Rattle.ps_definitions.specs.Branches.{match_of as match_in, match_of_side, match_of_sides, leaf_branch, joined_branches, crossed, branches_in, branches_of as branches_in_condition};
 ghost use Rattle.ps_definitions.specs.Laws.{is_leaf as stands_alone, is_spread, is_either};
 
 use crate::{Branch, Match};
@@ -144,7 +144,7 @@ fn branch_of_leaf(alloc: Global, leaf: &Expr) -> Result<Branch, Memory>
 
 // A branch with all leaves of another.
 fn join(alloc: Global, branch: Branch, other: &Branch) -> Result<Branch, Memory>
-    ensures { IfOk result (λ both. both ≡ joined branch other.now) }
+    ensures { IfOk result (λ both. both ≡ joined_branches branch other.now) }
 {
     let Branch { matches, rest } = branch;
     Ok(Branch {
@@ -159,7 +159,7 @@ fn join_each(
     branches: Items<Branch>,
     other: &Branch,
 ) -> Result<Items<Branch>, Memory>
-    ensures { IfOk result (λ all. all ≡ map (λ (b : BranchData). joined b other.now) branches) }
+    ensures { IfOk result (λ all. all ≡ map (λ (b : BranchData). joined_branches b other.now) branches) }
 {
     let mut all = Items::new(alloc);
     'branches: for branch in branches.into_vec() {
@@ -181,7 +181,7 @@ fn both(first: Items<Branch>, second: Items<Branch>) -> Result<Items<Branch>, Me
 
 // Each branch with a leaf.
 fn join_leaf(alloc: Global, branches: Items<Branch>, leaf: &Expr) -> Result<Items<Branch>, Memory>
-    ensures { IfOk result (λ all. all ≡ map (λ (b : BranchData). joined b (leaf_branch leaf.now)) branches) }
+    ensures { IfOk result (λ all. all ≡ map (λ (b : BranchData). joined_branches b (leaf_branch leaf.now)) branches) }
 {
     let leaf = branch_of_leaf(alloc, leaf)?;
     join_each(alloc, branches, &leaf)

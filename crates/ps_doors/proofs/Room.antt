@@ -7,7 +7,7 @@ use Rattle.std.proofs.lemmas.List.{map-append, length-map}
 use Rattle.std.proofs.lemmas.List.Folds.{list_any-append}
 use Rattle.std.proofs.lemmas.Map.Keys.{IsDistinct-push}
 use Rattle.std.proofs.lemmas.Map.Steps.{length-le_from_distinct_below}
-use Rattle.ps_doors.specs.Connections.{Connection, numbers_of}
+use Rattle.ps_doors.specs.Connections.{Connection, connection_numbers}
 use Rattle.ps_doors.specs.Memory.{connection_in, connections_in}
 use Rattle.ps_doors.specs.declared.ends.Ends.{Ends}
 
@@ -41,34 +41,34 @@ fewer numbers n opened distinct below within lacks =
 
 -- the numbers of what is closed, with one more
 numbers_more : (closed : List Ends) (ends : Ends)
-    → numbers_of (connections_in (closed ++ ends ∷ [])) ≡ numbers_of (connections_in closed) ++ ends.from.number ∷ []
+    → connection_numbers (connections_in (closed ++ ends ∷ [])) ≡ connection_numbers (connections_in closed) ++ ends.from.number ∷ []
 numbers_more closed ends =
-    ap numbers_of (map-append connection_in closed (ends ∷ []))
+    ap connection_numbers (map-append connection_in closed (ends ∷ []))
     ∙ map-append (λ (one : Connection). one.number) (connections_in closed) (connection_in ends ∷ [])
 
 pub below_closed : (closed : List Ends) (ends : Ends) (opened : ℕ)
-    → ((q : ℕ) → list_any (nat_eq q) (numbers_of (connections_in closed)) ≡ true → q < opened) → ends.from.number < opened
-    → (q : ℕ) → list_any (nat_eq q) (numbers_of (connections_in (closed ++ ends ∷ []))) ≡ true → q < opened
+    → ((q : ℕ) → list_any (nat_eq q) (connection_numbers (connections_in closed)) ≡ true → q < opened) → ends.from.number < opened
+    → (q : ℕ) → list_any (nat_eq q) (connection_numbers (connections_in (closed ++ ends ∷ []))) ≡ true → q < opened
 below_closed closed ends opened below within =
-    subst (λ numbers. AreBelow numbers opened) (sym (numbers_more closed ends)) (below_more (numbers_of (connections_in closed)) ends.from.number opened below within)
+    subst (λ numbers. AreBelow numbers opened) (sym (numbers_more closed ends)) (below_more (connection_numbers (connections_in closed)) ends.from.number opened below within)
 
-pub distinct_closed : (closed : List Ends) (ends : Ends) → IsDistinct nat_eq (numbers_of (connections_in closed))
-    → list_any (nat_eq ends.from.number) (numbers_of (connections_in closed)) ≡ false
-    → IsDistinct nat_eq (numbers_of (connections_in (closed ++ ends ∷ [])))
+pub distinct_closed : (closed : List Ends) (ends : Ends) → IsDistinct nat_eq (connection_numbers (connections_in closed))
+    → list_any (nat_eq ends.from.number) (connection_numbers (connections_in closed)) ≡ false
+    → IsDistinct nat_eq (connection_numbers (connections_in (closed ++ ends ∷ [])))
 distinct_closed closed ends distinct lacks =
-    subst (λ numbers. IsDistinct nat_eq numbers) (sym (numbers_more closed ends)) (IsDistinct-push nat_eq_equiv (numbers_of (connections_in closed)) ends.from.number distinct lacks)
+    subst (λ numbers. IsDistinct nat_eq numbers) (sym (numbers_more closed ends)) (IsDistinct-push nat_eq_equiv (connection_numbers (connections_in closed)) ends.from.number distinct lacks)
 
 -- as many numbers as ends
-pub length-numbers : (closed : List Ends) → length (numbers_of (connections_in closed)) ≡ length closed
+pub length-numbers : (closed : List Ends) → length (connection_numbers (connections_in closed)) ≡ length closed
 length-numbers closed = length-map (connections_in closed) (λ (one : Connection). one.number) ∙ length-map closed connection_in
 
 -- of none, each is below anything
-pub none_below : (closed : List Ends) (opened : ℕ) → closed ≡ [] → (q : ℕ) → list_any (nat_eq q) (numbers_of (connections_in closed)) ≡ true → q < opened
+pub none_below : (closed : List Ends) (opened : ℕ) → closed ≡ [] → (q : ℕ) → list_any (nat_eq q) (connection_numbers (connections_in closed)) ≡ true → q < opened
 none_below [] opened none q found = cc
 none_below (ends ∷ closed) opened none q found = cc
 
 -- of none, no two are equal
-pub none_equal : (closed : List Ends) → closed ≡ [] → IsDistinct nat_eq (numbers_of (connections_in closed))
+pub none_equal : (closed : List Ends) → closed ≡ [] → IsDistinct nat_eq (connection_numbers (connections_in closed))
 unfolding IsDistinct
 none_equal [] none = tt
 none_equal (ends ∷ closed) none = cc

@@ -15,8 +15,8 @@ pub record Connection : Type 0 where
   pub write_faults : ℕ
 
 -- a connection of that number through which nothing passed yet
-abbrev pub fresh : ℕ → Connection
-fresh number = record { number = number; given = []; ended = false; read_faults = 0; taken = []; write_faults = 0 }
+abbrev pub fresh_connection : ℕ → Connection
+fresh_connection number = record { number = number; given = []; ended = false; read_faults = 0; taken = []; write_faults = 0 }
 
 -- the connection as both of its ends tell it, where both tell what they hold
 abbrev pub told_by : ℕ → Option Input → ℕ → Option (List ℕ) → ℕ → Option Connection
@@ -32,12 +32,12 @@ with_closed (Some closed) None = None
 with_closed (Some closed) (Some one) = Some (closed ++ one ∷ [])
 
 -- their numbers, in order
-abbrev pub numbers_of : List Connection → List ℕ
-numbers_of connections = map (λ (one : Connection). one.number) connections
+abbrev pub connection_numbers : List Connection → List ℕ
+connection_numbers connections = map (λ (one : Connection). one.number) connections
 
 -- none of them has the number
 abbrev pub Lacks : ℕ → List Connection → Type 0
-Lacks number connections = list_any (nat_eq number) (numbers_of connections) ≡ false
+Lacks number connections = list_any (nat_eq number) (connection_numbers connections) ≡ false
 
 -- the connection of that number was handed out, and was not closed where that is told
 abbrev pub IsOut : ℕ → ℕ → Option (List Connection) → Type 0
@@ -57,4 +57,4 @@ module _ {S K : Type 0} (g : Source.Ghosts S) (h : Sink.Ghosts K) where
 
   -- where the closed connections are told, a new one tells that nothing passed through it, and its number is new among them
   abbrev pub IsFresh : Option (List Connection) → ℕ → S → K → Type 0
-  IsFresh closed number from to = IfSome closed (λ all. Lacks number all × (connection_of from to ≡ Some (fresh number)))
+  IsFresh closed number from to = IfSome closed (λ all. Lacks number all × (connection_of from to ≡ Some (fresh_connection number)))

@@ -1,6 +1,6 @@
 -- Connections in memory.
 use Rattle.std.specs.Prelude.{◌≡◌, ℕ, List, [], ◌∷◌, map}
-use Rattle.ps_io.specs.Calls.{Begins}
+use Rattle.ps_io.specs.Calls.{BeginsCounting}
 use Rattle.ps_io.specs.Memory.{HasItsMemory}
 use Rattle.ps_io.specs.MemorySources.{input_of}
 use Rattle.ps_io.specs.Sources.{unread}
@@ -40,10 +40,10 @@ bytes_of waiting = map (λ (peer : Peer). peer.bytes) (peers_of waiting)
 -- the ends of a connection with this peer, through which nothing passed yet
 pub record AreWith (peer : Peer) (from : MemorySource) (to : MemorySink) : Type 0 where
   pub bytes : input_of from.bytes ≡ unread peer.bytes
-  pub reads : Begins peer.failing_reads from.calls
+  pub reads : BeginsCounting peer.failing_reads from.calls
   pub room : to.room ≡ peer.room
   pub memory : HasItsMemory to
-  pub writes : Begins peer.failing_writes to.calls
+  pub writes : BeginsCounting peer.failing_writes to.calls
 
 -- of the peers that are to come the first one came
 abbrev pub Arrives : List Peer → List Peer → MemorySource → MemorySink → Type 0

@@ -2,7 +2,7 @@
 
 ghost use Rattle.std.specs.Prelude.{◌≡◌, ◌≤◌, ◌<◌, ◌+◌, ℕ, List, Option, Some, IfOk, IfSome, OnOk, OnErr};
 ghost use Rattle.ps_io.specs.Counts.{Rose};
-ghost use Rattle.ps_doors.specs.Connections.{Connection, connection_of, fresh, with_closed, AreEnds};
+ghost use Rattle.ps_doors.specs.Connections.{Connection, connection_of, fresh_connection, with_closed, AreEnds};
 
 use ps_data::Text;
 use ps_io::{Failed, Sink, Source};
@@ -31,7 +31,7 @@ pub trait Link {
         ensures none { OnErr result (out self.new ≡ out self.old) }
         ensures ends { IfOk result (λ c. AreEnds Self.In.Source Self.Out.Sink 0 c.0 c.1) }
         ensures fresh { IfOk result (λ c. IfSome (closed self.old) (λ _.
-            connection_of Self.In.Source Self.Out.Sink c.0 c.1 ≡ Some (fresh 0))) }
+            connection_of Self.In.Source Self.Out.Sink c.0 c.1 ≡ Some (fresh_connection 0))) }
         ensures closed { closed self.new ≡ closed self.old }
         ensures failed { OnErr result (Rose (faults self.old) (faults self.new)) }
         ensures faults { faults self.old ≤ faults self.new }

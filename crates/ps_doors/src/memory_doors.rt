@@ -2,9 +2,9 @@
 
 ghost use Rattle.std.specs.Prelude.{◌≡◌, ◌+◌, ◌≤◌, ◌<◌, ◌^◌, ℕ, true, nat_eq, map, [], Some, None, length, IfOk, IfSome, OnOk, OnErr, IsErr, vec_capacity};
 ghost use Rattle.std.specs.List.{list_any, IsDistinct, IsDistinct-prop};
-ghost use Rattle.ps_io.specs.Calls.{fails_next, IsCounted, Begins};
+ghost use Rattle.ps_io.specs.Calls.{fails_next, CallIsCounted, BeginsCounting};
 ghost use Rattle.ps_io.specs.Counts.{Rose};
-ghost use Rattle.ps_doors.specs.Connections.{connection_of, numbers_of, with_closed, AreEnds, IsFresh, IsOut};
+ghost use Rattle.ps_doors.specs.Connections.{connection_of, connection_numbers, with_closed, AreEnds, IsFresh, IsOut};
 ghost use Rattle.ps_doors.specs.Doors.{opened_after, Comes};
 ghost use Rattle.ps_doors.specs.Memory.{bytes_of, connections_in, peers_of, Arrives};
 
@@ -26,8 +26,8 @@ pub struct MemoryDoors {
     // All that is handed out can be taken back.
     ghost room: { opened + length coming.items ≤ vec_capacity closed },
     ghost counted: { opened + length coming.items < 2 ^ 64 },
-    ghost below: { (n : ℕ) → list_any (nat_eq n) (numbers_of (connections_in closed.items)) ≡ true → n < opened },
-    ghost distinct: { IsDistinct nat_eq (numbers_of (connections_in closed.items)) } by { IsDistinct-prop nat_eq (numbers_of (connections_in closed.items)) },
+    ghost below: { (n : ℕ) → list_any (nat_eq n) (connection_numbers (connections_in closed.items)) ≡ true → n < opened },
+    ghost distinct: { IsDistinct nat_eq (connection_numbers (connections_in closed.items)) } by { IsDistinct-prop nat_eq (numbers_of (connections_in closed.items)) },
 }
 
 impl MemoryDoors {
@@ -44,7 +44,7 @@ impl MemoryDoors {
         ensures opened { IfOk result (λ doors. ⟦<MemoryDoors as Doors>⟧.opened doors ≡ 0) }
         ensures closed { IfOk result (λ doors. ⟦<MemoryDoors as Doors>⟧.closed doors ≡ Some []) }
         ensures faults { IfOk result (λ doors. ⟦<MemoryDoors as Doors>⟧.faults doors ≡ 0) }
-        ensures calls { IfOk result (λ doors. Begins failing doors.calls) }
+        ensures calls { IfOk result (λ doors. BeginsCounting failing doors.calls) }
     {
         let coming = wait_for_all(alloc, peers)?;
         let closed = Vec::with_capacity(alloc, coming.len())?;
@@ -88,7 +88,7 @@ impl Doors for MemoryDoors {
         // It fails exactly where its number is to fail.
         ensures cause { OnErr result (fails_next self.old.calls ≡ true) }
         ensures fails { fails_next self.old.calls ≡ true → IsErr result }
-        ensures calls { IsCounted self.old.calls self.new.calls }
+        ensures calls { CallIsCounted self.old.calls self.new.calls }
     {
         if self.calls.next_fails() {
             self.calls.fail();
@@ -117,7 +117,7 @@ impl Doors for MemoryDoors {
         ensures first { IfOk result (λ next. IfSome next (λ c.
             Arrives (peers_of self.old.coming.items) (peers_of self.new.coming.items) c.0 c.1)) }
         ensures kept { OnErr result (self.new.coming.items ≡ self.old.coming.items) }
-        ensures calls { IsCounted self.old.calls self.new.calls }
+        ensures calls { CallIsCounted self.old.calls self.new.calls }
     {
         if self.calls.next_fails() {
             self.calls.fail();

@@ -1,9 +1,9 @@
 //! A link in memory.
 
 ghost use Rattle.std.specs.Prelude.{◌≡◌, ◌⊎◌, ◌+◌, ◌≤◌, ◌<◌, ◌^◌, true, [], Some, length, IfOk, OnOk, OnErr, IsErr, vec_len, vec_capacity};
-ghost use Rattle.ps_io.specs.Calls.{fails_next, IsCounted, Begins};
+ghost use Rattle.ps_io.specs.Calls.{fails_next, CallIsCounted, BeginsCounting};
 ghost use Rattle.ps_io.specs.Counts.{Rose};
-ghost use Rattle.ps_doors.specs.Connections.{connection_of, fresh, AreEnds};
+ghost use Rattle.ps_doors.specs.Connections.{connection_of, fresh_connection, AreEnds};
 ghost use Rattle.ps_doors.specs.Memory.{connections_in, peers_of, Arrives};
 
 use crate::ends::{Waiting, keep};
@@ -34,7 +34,7 @@ impl MemoryLink {
         ensures out { IfOk result (λ link. ⟦<MemoryLink as Link>⟧.out link ≡ 0) }
         ensures closed { IfOk result (λ link. ⟦<MemoryLink as Link>⟧.closed link ≡ Some []) }
         ensures faults { IfOk result (λ link. ⟦<MemoryLink as Link>⟧.faults link ≡ 0) }
-        ensures calls { IfOk result (λ link. Begins failing link.calls) }
+        ensures calls { IfOk result (λ link. BeginsCounting failing link.calls) }
     {
         let coming = wait_for_all(alloc, peers)?;
         let closed = Vec::with_capacity(alloc, coming.len())?;
@@ -84,7 +84,7 @@ impl Link for MemoryLink {
         ensures ends { IfOk result (λ c.
             AreEnds ⟦<MemorySource as Source>⟧ ⟦<MemorySink as Sink>⟧ 0 c.0 c.1) }
         ensures fresh { IfOk result (λ c.
-            connection_of ⟦<MemorySource as Source>⟧ ⟦<MemorySink as Sink>⟧ c.0 c.1 ≡ Some (fresh 0)) }
+            connection_of ⟦<MemorySource as Source>⟧ ⟦<MemorySink as Sink>⟧ c.0 c.1 ≡ Some (fresh_connection 0)) }
         ensures closed { self.new.closed.items ≡ self.old.closed.items }
         ensures failed { OnErr result (Rose self.old.calls.faults self.new.calls.faults) }
         ensures faults { self.old.calls.faults ≤ self.new.calls.faults }
@@ -97,7 +97,7 @@ impl Link for MemoryLink {
         ensures first { IfOk result (λ c.
             Arrives (peers_of self.old.coming.items) (peers_of self.new.coming.items) c.0 c.1) }
         ensures kept { OnErr result (self.new.coming.items ≡ self.old.coming.items) }
-        ensures calls { IsCounted self.old.calls self.new.calls }
+        ensures calls { CallIsCounted self.old.calls self.new.calls }
     {
         if self.calls.next_fails() {
             self.calls.fail();

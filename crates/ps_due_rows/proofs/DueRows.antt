@@ -14,7 +14,7 @@ use Rattle.ps_store.specs.LedgerLaws.{OneGenerationReads}
 use Rattle.ps_store.specs.Laws.{last_position}
 use Rattle.ps_store.specs.Ledgers.{Ledger, ledger_of}
 use Rattle.ps_store.specs.Limits.{usual_limits}
-use Rattle.ps_store.specs.Readings.{names_of, AreTooMany}
+use Rattle.ps_store.specs.Readings.{asker_bucket_names, AreTooMany}
 use Rattle.ps_due_rows.specs.Syncing.{AreSynced}
 use Rattle.ps_due_rows.specs.Dues.{due, own_buckets}
 use Rattle.ps_files.specs.ReadingChanges.{usual}
@@ -25,7 +25,7 @@ module _ (one : LedgersTellOneGeneration) (reads : OneGenerationReads) (rules : 
   l = ledger_of rules h.history
 
   -- the asker's buckets at the checkpoint are those at the last position
-  own_are : names_of l asker ≡ own_buckets rules asker ts
+  own_are : asker_bucket_names l asker ≡ own_buckets rules asker ts
   own_are =
       (reads rules h.history h.stands.legal h.one).names asker
       ∙ ap (λ (fed : List Transaction). bucket_names rules.definitions asker (rows_in (source_at fed l.position))) h.fed

@@ -14,7 +14,7 @@ use Rattle.ps_store.specs.declared.stores.Checkpoint.{Checkpoint}
 use Rattle.ps_store.specs.declared.stores.Store.{Store}
 use Rattle.ps_store.specs.Histories.{LedgersTellHistories}
 use Rattle.ps_store.specs.Laws.{last_position}
-use Rattle.ps_store.specs.Ledgers.{Ledger, fresh, timed_of, ledger_after, ledger_of, reached_by}
+use Rattle.ps_store.specs.Ledgers.{Ledger, fresh_ledger, timed_of, ledger_after, ledger_of, reached_by}
 use Rattle.ps_store.specs.Originals.{timed, timed_from}
 use Rattle.ps_store.specs.Stores.{Commits}
 use Rattle.ps_store.proofs.NoDeploys.{plain_push}
@@ -27,7 +27,7 @@ use Rattle.ps_snapshot.specs.declared.fillings.Filling.{Filling}
 use Rattle.ps_snapshot.specs.declared.lines.Line.{Line}
 use Rattle.ps_snapshot.specs.declared.faults.LineFault.{LineFault}
 use Rattle.ps_snapshot.specs.FirstCopies.{FirstCopy, nothing, after_line, copy_of}
-use Rattle.ps_snapshot.specs.Fillings.{Fills, Takes, Finishes}
+use Rattle.ps_snapshot.specs.Fillings.{Fills, TakesCopyLine, Finishes}
 use Rattle.ps_snapshot.specs.Judging.{next_line}
 use Rattle.ps_snapshot.specs.Writing.{Stop, too_wide, ids_full, stop_on, stop_by, IsPending}
 use Rattle.ps_files.specs.declared.faults.Fault.{Fault}
@@ -36,7 +36,7 @@ use Rattle.ps_files.specs.declared.faults.Limit.{Limit}
 use Rattle.ps_files.specs.declared.faults.LineFault.TheVariants as line_faults
 use Rattle.ps_files.specs.ChangeFiles.{◌>>=◌}
 use Rattle.ps_files.specs.LineEnds.{next_number}
-use Rattle.ps_files.specs.ReadingChanges.{usual, HasCommitted, Writes, lines_left, bytes_left}
+use Rattle.ps_files.specs.ReadingChanges.{usual, HasCommitted, WritesFile, lines_left, bytes_left}
 use Rattle.ps_due_rows.specs.FirstCopies.{read_at, unless_stopped, passed_limit, within_limits, taken_at, copied_from, up_to, ended_at, first_copy_of}
 use Rattle.ps_due_rows.specs.Filling.{IsLineFault, refused_at, IsServed, Feeds, TakesNext, HasFilled, TakesAll}
 
@@ -81,7 +81,7 @@ module _ (rules : RuleSet) (lines : List Line) (number : ℕ) (bytes : List ℕ)
       → taken_at rules (copy_of lines) number bytes ≡ (read_at number r >>= λ line. within_limits rules (after_line (copy_of lines) line))
   taken_from r is = ap (λ x. read_at number x >>= λ line. within_limits rules (after_line (copy_of lines) line)) is
 
-  pub taken_next : (filled : Filled) → Takes (usual rules) lines bytes old new (Ok filled) → TakesNext rules lines number bytes new (Ok tt)
+  pub taken_next : (filled : Filled) → TakesCopyLine (usual rules) lines bytes old new (Ok filled) → TakesNext rules lines number bytes new (Ok tt)
   taken_next filled h =
       let line = h.0 in
       let copy = copy_of (lines ++ line ∷ []) in
@@ -101,7 +101,7 @@ module _ (rules : RuleSet) (lines : List Line) (number : ℕ) (bytes : List ℕ)
       ∙ ap (λ (c : FirstCopy). within_limits rules c) (copy_more lines line)
       ∙ ap (unless_stopped (copy_of (lines ++ line ∷ []))) is
 
-  pub refused_next : (fault : FillFault) → Takes (usual rules) lines bytes old new (Err fault) → TakesNext rules lines number bytes new (Err (refused_at number fault))
+  pub refused_next : (fault : FillFault) → TakesCopyLine (usual rules) lines bytes old new (Err fault) → TakesNext rules lines number bytes new (Err (refused_at number fault))
   refused_next (LineTooLong length) h = taken_from _ h.0
   refused_next BadJson h = taken_from _ h.0
   refused_next BadShape h = taken_from _ h.0
@@ -211,7 +211,7 @@ module _ (law : LedgersTellHistories) (rules : RuleSet) (fed : List Transaction)
   -- what is committed is served, or there was nothing to commit
   pub commits : (new : Store) (r : Result Checkpoint NothingToCommit) → Commits (usual rules) h.history new r → IsServed rules fed new
   commits new (Ok checkpoint) c =
-      let next : ledger_of rules (h.history ++ Commit ∷ []) ≡ ledger_after l Commit = fold_more ledger_after (fresh rules) h.history Commit in
+      let next : ledger_of rules (h.history ++ Commit ∷ []) ≡ ledger_after l Commit = fold_more ledger_after (fresh_ledger rules) h.history Commit in
       record {
         history = h.history ++ Commit ∷ [];
         stands = c.2;
@@ -245,7 +245,7 @@ file_fed rules bytes lines result is h =
     subst (λ (r : Result (List Transaction) Fault). Feeds rules r result) (sym (ap (λ r. r >>= ended_at (next_number bytes)) is)) h
 
 -- what is written of change lines is served
-pub written_feeds : (rules : RuleSet) (meant : Result (List Transaction) Fault) (result : Result Store Fault) → Writes rules meant result → Feeds rules meant result
+pub written_feeds : (rules : RuleSet) (meant : Result (List Transaction) Fault) (result : Result Store Fault) → WritesFile rules meant result → Feeds rules meant result
 written_feeds rules meant (Ok store) h = (h.0, h.1, record { history = h.2.history; stands = h.2.stands; one = h.2.one; fed = h.2.fed; position = h.2.position })
 written_feeds rules meant (Err Usage) h = h
 written_feeds rules meant (Err (Rules which line column why)) h = h

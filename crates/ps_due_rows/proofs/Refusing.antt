@@ -6,7 +6,7 @@ use Rattle.ps_queries.specs.declared.askers.Asker.{Asker}
 use Rattle.ps_files.specs.declared.faults.Fault.{Fault}
 use Rattle.ps_files.specs.declared.faults.Fault.TheVariants.{Usage, Rules, Change, PastLimit, TooManyBuckets, Claims, Keys, TooLong, CannotRead, CannotWrite, Script, Memory}
 use Rattle.ps_due_rows.specs.declared.feedings.Feeding.{Feeding}
-use Rattle.ps_due_rows.specs.Dues.{Answers}
+use Rattle.ps_due_rows.specs.Dues.{AnswersDueRows}
 use Rattle.ps_due_rows.specs.Filling.{IsLineFault}
 use Rattle.ps_due_rows.specs.FirstCopies.{fed_by}
 use Rattle.ps_due_rows.specs.Loading.{Prepares}
@@ -28,7 +28,7 @@ not_fed feeding rules asker bytes Memory h = tt
 
 -- where an asker's rows are not answered, neither are they printed
 pub rows_refused : (feeding : Feeding) (rules : RuleSet) (asker : Asker) (bytes : List ℕ) (transactions : List Transaction) → fed_by feeding rules bytes ≡ Ok transactions
-    → (fault : Fault) → Answers rules asker transactions (Err fault) → Prepares feeding rules asker bytes (Err fault)
+    → (fault : Fault) → AnswersDueRows rules asker transactions (Err fault) → Prepares feeding rules asker bytes (Err fault)
 rows_refused feeding rules asker bytes transactions read Usage h = absurd h
 rows_refused feeding rules asker bytes transactions read (Rules which line column why) h = absurd h
 rows_refused feeding rules asker bytes transactions read (Change line why) h = absurd h

@@ -10,9 +10,9 @@ use Rattle.ps_store.specs.declared.readings.TakeFault.{TakeFault}
 use Rattle.ps_store.specs.declared.readings.TakeFault.TheVariants.{TooManyBuckets, Memory}
 use Rattle.ps_session.specs.Sessions.{SessionState}
 use Rattle.ps_due_rows.specs.Syncing.{Syncs}
-use Rattle.ps_due_rows.specs.Turning.{Begins}
+use Rattle.ps_due_rows.specs.Turning.{TakesLed}
 
-pub begun_so : (fixed : Fixed) (history : List Event) (asker : Asker) (fault : TakeFault) (session : SessionState) (client : PlainClient) → Begins fixed history asker session client (Err fault)
+pub begun_so : (fixed : Fixed) (history : List Event) (asker : Asker) (fault : TakeFault) (session : SessionState) (client : PlainClient) → TakesLed fixed history asker session client (Err fault)
     → Syncs fixed history asker (Err fault)
 begun_so fixed history asker (TooManyBuckets count) session client many = many
 begun_so fixed history asker Memory session client none = tt

@@ -27,7 +27,7 @@ use Rattle.ps_lines.specs.declared.faults.LineFault.{LineFault}
 use Rattle.ps_lines.specs.Reading.{line_of}
 use Rattle.ps_lines.specs.Writing.{without_targets}
 use Rattle.ps_client.specs.Clients.{PlainClient, taken, taken_if, line_taken, taken_in, first_taken, next_taken, comes_next, held, held_by, applied, compared}
-use Rattle.ps_client.specs.Taking.{Answers}
+use Rattle.ps_client.specs.Taking.{AnswersLine}
 use Rattle.ps_store.specs.Courses.{Course}
 use Rattle.ps_session.specs.declared.phases.Phase.{Phase}
 use Rattle.ps_session.specs.declared.phases.Phase.TheVariants.{Download}
@@ -35,18 +35,18 @@ use Rattle.ps_session.specs.Sessions.{SessionState}
 use Rattle.ps_streams.specs.Headline.{IsGood, AreListed}
 use Rattle.ps_streams.specs.Calls.{IsRightEvent, IsRightFault}
 use Rattle.ps_streams.specs.Ties.{TiedIn}
-use Rattle.ps_showing.specs.Faults.{IsWant}
+use Rattle.ps_showing.specs.Faults.{IsOutOfMemory}
 use Rattle.ps_due_rows.specs.Turning.{IsLed, IsIdle}
 
 -- ---- faults
 
-pub is_want : (fault : ClientFault) → IsRightFault fault → RoseAtFault fault 0 0 → IsWant fault
-is_want OutOfOrder right rose = right
-is_want (BadLine fault) right rose = right
-is_want KeeperFault right rose = absurd (omega (arith, rose))
-is_want QueueEmpty right rose = right
-is_want (QueueWaiting length) right rose = right
-is_want Memory right rose = tt
+pub is_out_of_memory : (fault : ClientFault) → IsRightFault fault → RoseAtFault fault 0 0 → IsOutOfMemory fault
+is_out_of_memory OutOfOrder right rose = right
+is_out_of_memory (BadLine fault) right rose = right
+is_out_of_memory KeeperFault right rose = absurd (omega (arith, rose))
+is_out_of_memory QueueEmpty right rose = right
+is_out_of_memory (QueueWaiting length) right rose = right
+is_out_of_memory Memory right rose = tt
 
 -- ---- no line brings local writes
 
@@ -95,7 +95,7 @@ stream_idle Over kept line idle = idle
 stream_idle Asked kept line idle = first_idle kept line idle
 stream_idle (Open table) kept line idle = next_idle kept table line idle
 
-stays_idle : (old new : PlainClient) (line : Line) (event : Event) → Answers (taken old line) old new (Ok event) → IsIdle old → IsIdle new
+stays_idle : (old new : PlainClient) (line : Line) (event : Event) → AnswersLine (taken old line) old new (Ok event) → IsIdle old → IsIdle new
 stays_idle old new line event answers idle =
     let now = stream_idle old.stream old.kept line (idle.queue, idle.target) in
     record {
@@ -105,15 +105,15 @@ stays_idle old new line event answers idle =
 
 -- a line's bytes are taken as the line
 taken_read : (line : Line) (bytes : List ℕ) (old new : PlainClient) (event : Event) → line_of bytes ≡ Ok (without_targets line)
-    → Answers (line_taken old bytes) old new (Ok event) → Answers (taken old (without_targets line)) old new (Ok event)
-taken_read line bytes old new event is answers = subst (λ (read : Result Line LineFault). Answers (taken_if old read) old new (Ok event)) is answers
+    → AnswersLine (line_taken old bytes) old new (Ok event) → AnswersLine (taken old (without_targets line)) old new (Ok event)
+taken_read line bytes old new event is answers = subst (λ (read : Result Line LineFault). AnswersLine (taken_if old read) old new (Ok event)) is answers
 
 pub answer_is : (line : Line) (bytes : List ℕ) (old new : PlainClient) (event : Event) → line_of bytes ≡ Ok (without_targets line)
-    → Answers (line_taken old bytes) old new (Ok event) → (taken old (without_targets line)).answer ≡ Ok event
+    → AnswersLine (line_taken old bytes) old new (Ok event) → (taken old (without_targets line)).answer ≡ Ok event
 answer_is line bytes old new event is answers = (taken_read line bytes old new event is answers).answer
 
 pub stays_idle_read : (line : Line) (bytes : List ℕ) (old new : PlainClient) (event : Event) → line_of bytes ≡ Ok (without_targets line)
-    → Answers (line_taken old bytes) old new (Ok event) → IsIdle old → IsIdle new
+    → AnswersLine (line_taken old bytes) old new (Ok event) → IsIdle old → IsIdle new
 stays_idle_read line bytes old new event is answers = stays_idle old new (without_targets line) event (taken_read line bytes old new event is answers)
 
 -- ---- the end of a checkpoint is applied

@@ -19,7 +19,7 @@ use Rattle.ps_store.specs.Stores.{StoreStandsFor}
 use Rattle.ps_session.specs.declared.actions.Action.TheVariants.{Read}
 use Rattle.ps_session.specs.declared.phases.Phase.{Phase}
 use Rattle.ps_session.specs.declared.phases.Phase.TheVariants.{Start, Download, Void, Done}
-use Rattle.ps_session.specs.Takes.{name_of, place_in}
+use Rattle.ps_session.specs.Takes.{taken_name, place_in}
 use Rattle.ps_session.specs.Sessions.{SessionState, IsReading, action_in, behind, begin, download_action, next_action, requested_in}
 use Rattle.ps_streams.specs.declared.outcomes.TurnOutcome.{TurnOutcome}
 use Rattle.ps_streams.specs.Calls.{BeginsUntaken, RequestsAskOn}
@@ -29,7 +29,7 @@ use Rattle.ps_streams.specs.Led.{EmptyAreHonest, LeadsFirst, LeadsOn}
 use Rattle.ps_streams.specs.Runs.{download, made_by, turn, turn_in}
 use Rattle.ps_streams.specs.Ties.{HasTaken, Leads}
 use Rattle.ps_streams.specs.Turning.{IsUnderWay, TurnsSo, line_in, takes_in}
-use Rattle.ps_due_rows.specs.Turning.{Begins, IsLed, IsLedIn, IsIdle, TurnsLed}
+use Rattle.ps_due_rows.specs.Turning.{TakesLed, IsLed, IsLedIn, IsIdle, TurnsLed}
 use Rattle.ps_due_rows.proofs.Leading.{at_end, lawful_of, turn_leads}
 
 -- ---- the beginning
@@ -87,7 +87,7 @@ module _ (fixed : Fixed) (history : List Event) (asker : Asker) (before now : Se
   -- ---- the first take
 
   pub begins_so : (client : PlainClient) → before.phase ≡ Start → (result : Result (Unit {0}) TakeFault) → TurnsLed fixed history asker before now client result
-      → Begins fixed history asker now client result
+      → TakesLed fixed history asker now client result
   begins_so client start (Ok done) it = (it.1, it.2 (ap takes_in start))
   begins_so client start (Err (TooManyBuckets count)) it = it.1
   begins_so client start (Err Memory) it = tt
@@ -117,7 +117,7 @@ module _ (falls : ReadsSendOn) (course : Course) (n : ℕ) (session : SessionSta
       let action : next_action session ≡ Read (place_in bucket.name session.last.buckets) (record { 0 = session.places bucket.name }) session.last.last_op =
       ap (λ (p : Phase). action_in p session) phase ∙ ap (λ (o : Option TakenBucket). download_action o session) is in
       falls course n (place_in bucket.name session.last.buckets) (record { 0 = session.places bucket.name }) session.last.last_op bucket.name session lawful taken action
-      (ap (λ (o : Option TakenBucket). option_map name_of o) is)
+      (ap (λ (o : Option TakenBucket). option_map taken_name o) is)
 
   by_phase : (p : Phase) → session.phase ≡ p → IsReading (action_in p session) → SendsOn session (turn_in p course n session).session
   by_phase Start is reading = absurd reading

@@ -28,18 +28,18 @@ rows_after rules asker transactions =
     else Ok (due rules asker transactions (last_position 0 transactions))
 
 -- the rows that are due to an asker, or the number of buckets, which is more than an asker may have
-abbrev pub Answers : RuleSet → Asker → List Transaction → Result (List Shown) Fault → Type 0
-Answers rules asker transactions (Ok rows) =
+abbrev pub AnswersDueRows : RuleSet → Asker → List Transaction → Result (List Shown) Fault → Type 0
+AnswersDueRows rules asker transactions (Ok rows) =
     (length (own_buckets rules asker transactions) ≤ usual_limits.buckets) × (rows ≡ due rules asker transactions (last_position 0 transactions))
-Answers rules asker transactions (Err Usage) = ⊥
-Answers rules asker transactions (Err (Rules which line column why)) = ⊥
-Answers rules asker transactions (Err (Change line why)) = ⊥
-Answers rules asker transactions (Err (PastLimit limit)) = ⊥
-Answers rules asker transactions (Err (TooManyBuckets count)) = (count ≡ length (own_buckets rules asker transactions)) × (usual_limits.buckets < count)
-Answers rules asker transactions (Err Claims) = ⊥
-Answers rules asker transactions (Err Keys) = ⊥
-Answers rules asker transactions (Err (TooLong seen)) = ⊥
-Answers rules asker transactions (Err (CannotRead name)) = ⊥
-Answers rules asker transactions (Err CannotWrite) = ⊥
-Answers rules asker transactions (Err (Script place cause)) = ⊥
-Answers rules asker transactions (Err Memory) = Unit {0}
+AnswersDueRows rules asker transactions (Err Usage) = ⊥
+AnswersDueRows rules asker transactions (Err (Rules which line column why)) = ⊥
+AnswersDueRows rules asker transactions (Err (Change line why)) = ⊥
+AnswersDueRows rules asker transactions (Err (PastLimit limit)) = ⊥
+AnswersDueRows rules asker transactions (Err (TooManyBuckets count)) = (count ≡ length (own_buckets rules asker transactions)) × (usual_limits.buckets < count)
+AnswersDueRows rules asker transactions (Err Claims) = ⊥
+AnswersDueRows rules asker transactions (Err Keys) = ⊥
+AnswersDueRows rules asker transactions (Err (TooLong seen)) = ⊥
+AnswersDueRows rules asker transactions (Err (CannotRead name)) = ⊥
+AnswersDueRows rules asker transactions (Err CannotWrite) = ⊥
+AnswersDueRows rules asker transactions (Err (Script place cause)) = ⊥
+AnswersDueRows rules asker transactions (Err Memory) = Unit {0}

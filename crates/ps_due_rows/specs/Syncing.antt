@@ -8,12 +8,12 @@ use Rattle.ps_store.specs.declared.fixed.Fixed.{Fixed}
 use Rattle.ps_store.specs.declared.readings.TakeFault.{TakeFault}
 use Rattle.ps_store.specs.declared.readings.TakeFault.TheVariants.{TooManyBuckets, Memory}
 use Rattle.ps_store.specs.Ledgers.{ledger_of}
-use Rattle.ps_store.specs.Readings.{names_of, AreTooMany}
+use Rattle.ps_store.specs.Readings.{asker_bucket_names, AreTooMany}
 
 -- exactly the rows that are due at the checkpoint's position by the rules in force, to an asker of at most as many buckets as the limit
 pub record AreSynced (fixed : Fixed) (history : List Event) (asker : Asker) (rows : List Shown) : Type 0 where
   pub rows_are : rows ≡ due (ledger_of fixed.rules history).force.rules.definitions asker (ledger_of fixed.rules history).fed (ledger_of fixed.rules history).position
-  pub few : length (names_of (ledger_of fixed.rules history) asker) ≤ fixed.limits.buckets
+  pub few : length (asker_bucket_names (ledger_of fixed.rules history) asker) ≤ fixed.limits.buckets
 
 -- the rows that are shown, or why there are none
 abbrev pub Syncs : Fixed → List Event → Asker → Result (List Shown) TakeFault → Type 0

@@ -8,7 +8,7 @@ use Rattle.ps_store.specs.declared.fixed.Fixed.{Fixed}
 use Rattle.ps_store.specs.declared.readings.TakeFault.{TakeFault}
 use Rattle.ps_store.specs.declared.readings.TakeFault.TheVariants.{TooManyBuckets, Memory}
 use Rattle.ps_store.specs.Ledgers.{ledger_of}
-use Rattle.ps_store.specs.Readings.{names_of, AreTooMany}
+use Rattle.ps_store.specs.Readings.{asker_bucket_names, AreTooMany}
 use Rattle.ps_store.specs.Courses.{Course, course_of}
 use Rattle.ps_session.specs.Sessions.{SessionState}
 use Rattle.ps_streams.specs.Runs.{turn}
@@ -34,14 +34,14 @@ pub record IsIdle (client : PlainClient) : Type 0 where
 abbrev pub TurnsLed : Fixed → List Event → Asker → SessionState → SessionState → PlainClient → Result (Unit {0}) TakeFault → Type 0
 TurnsLed fixed history asker before now client (Ok done) =
     (now ≡ (turn (course_of fixed.rules history asker) (length history) before).session) × IsLedIn fixed history asker now client
-    × (takes_in before.phase ≡ true → length (names_of (ledger_of fixed.rules history) asker) ≤ fixed.limits.buckets)
+    × (takes_in before.phase ≡ true → length (asker_bucket_names (ledger_of fixed.rules history) asker) ≤ fixed.limits.buckets)
 TurnsLed fixed history asker before now client (Err (TooManyBuckets count)) =
     (takes_in before.phase ≡ true) × AreTooMany fixed.limits (ledger_of fixed.rules history) asker count
 TurnsLed fixed history asker before now client (Err Memory) = Unit {0}
 
 -- a checkpoint was taken and told, or why not
-abbrev pub Begins : Fixed → List Event → Asker → SessionState → PlainClient → Result (Unit {0}) TakeFault → Type 0
-Begins fixed history asker session client (Ok done) =
-    IsLedIn fixed history asker session client × (length (names_of (ledger_of fixed.rules history) asker) ≤ fixed.limits.buckets)
-Begins fixed history asker session client (Err (TooManyBuckets count)) = AreTooMany fixed.limits (ledger_of fixed.rules history) asker count
-Begins fixed history asker session client (Err Memory) = Unit {0}
+abbrev pub TakesLed : Fixed → List Event → Asker → SessionState → PlainClient → Result (Unit {0}) TakeFault → Type 0
+TakesLed fixed history asker session client (Ok done) =
+    IsLedIn fixed history asker session client × (length (asker_bucket_names (ledger_of fixed.rules history) asker) ≤ fixed.limits.buckets)
+TakesLed fixed history asker session client (Err (TooManyBuckets count)) = AreTooMany fixed.limits (ledger_of fixed.rules history) asker count
+TakesLed fixed history asker session client (Err Memory) = Unit {0}

@@ -2,15 +2,11 @@
 //! checkpoint of it, line by line.
 #![tactic(auto)]
 
-mod answering;
 mod feedings;
-mod filling;
-mod handing;
-mod loading;
-mod starting;
-mod syncing;
-mod turning;
+mod first_copies;
+mod rows;
+mod sync;
 
 pub use feedings::Feeding;
-pub use loading::load_rows;
-pub use syncing::synced_rows;
+pub use rows::load_rows;
+pub use sync::synced_rows;

@@ -5,24 +5,24 @@ use Rattle.std.specs.declared.alloc.Global.{Global}
 use Rattle.ps_rows.specs.declared.changes.Transaction.{Transaction}
 use Rattle.ps_changes.specs.declared.faults.ChangeFault.{ChangeFault}
 use Rattle.ps_changes.specs.declared.faults.ChangeFault.TheVariants as changes
-use Rattle.ps_changes.specs.Lines.{line_of}
+use Rattle.ps_changes.specs.Lines.{transaction_of_line}
 use Rattle.ps_changes.specs.Members.{Reads}
 use Rattle.ps_store.specs.Limits.{greatest}
 use Rattle.ps_files.specs.declared.faults.Fault.{Fault}
 use Rattle.ps_files.specs.declared.faults.Fault.TheVariants.{Usage, Rules, Change, PastLimit, TooManyBuckets, Claims, Keys, TooLong, CannotRead, CannotWrite, Script, Memory}
 use Rattle.ps_file_lines.specs.Lines.{is_blank}
-use Rattle.ps_files.specs.ChangeFiles.{numbered, line_fault, all_from, all_transactions_of, ◌>>=◌}
+use Rattle.ps_files.specs.ChangeFiles.{transaction_at_line, line_fault, all_from, all_transactions_of, ◌>>=◌}
 use Rattle.ps_files.specs.ReadingAll.{HasRead, FindsTransactions, ReadsAll}
 use Rattle.ps_files.specs.ReadingChanges.{ReadsRising, lines_left, bytes_left}
 use Rattle.ps_files.proofs.Reaching.{SplitsLine, left_lines, fewer}
 
 -- a fault of a line is that of what it means
-pub refused_line : (number : ℕ) (fault : ChangeFault) (meant : Result Transaction ChangeFault) → Reads (Err fault) meant → ReadsRising (Err (line_fault number fault)) (numbered number meant)
-refused_line number (changes.LineTooLong length) meant is = ap (numbered number) is
-refused_line number changes.BadJson meant is = ap (numbered number) is
-refused_line number changes.BadShape meant is = ap (numbered number) is
-refused_line number changes.BadPosition meant is = ap (numbered number) is
-refused_line number changes.BadValue meant is = ap (numbered number) is
+pub refused_line : (number : ℕ) (fault : ChangeFault) (meant : Result Transaction ChangeFault) → Reads (Err fault) meant → ReadsRising (Err (line_fault number fault)) (transaction_at_line number meant)
+refused_line number (changes.LineTooLong length) meant is = ap (transaction_at_line number) is
+refused_line number changes.BadJson meant is = ap (transaction_at_line number) is
+refused_line number changes.BadShape meant is = ap (transaction_at_line number) is
+refused_line number changes.BadPosition meant is = ap (transaction_at_line number) is
+refused_line number changes.BadValue meant is = ap (transaction_at_line number) is
 refused_line number changes.Memory meant is = tt
 
 abbrev IsLow : Transaction → Type 0
@@ -40,19 +40,19 @@ module _ (changes : List ℕ) (number : ℕ) (bytes : Bor (List ℕ)) (line : Li
   fewer_left : number + 1 + bytes_left rest ≤ length changes + 1
   fewer_left = omega (arith, so_far.counted, fewer bytes.now line rest splits)
 
-  full_line : (r : Result Transaction Fault) → is_blank line ≡ false → numbered (number + 1) (line_of line) ≡ r
+  full_line : (r : Result Transaction Fault) → is_blank line ≡ false → transaction_at_line (number + 1) (transaction_of_line line) ≡ r
       → all_transactions_of changes ≡ (r >>= λ t. all_from (done ++ t ∷ []) (number + 1 + 1) (lines_left rest))
   full_line r full is = here ∙ rw full (ap (λ x. x >>= λ t. all_from (done ++ t ∷ []) (number + 1 + 1) (lines_left rest)) is)
 
   -- a transaction more is read
-  pub read_more : (t : Transaction) → is_blank line ≡ false → numbered (number + 1) (line_of line) ≡ Ok t → t.position.0 ≤ greatest → HasRead changes (number + 1) rest (done ++ t ∷ [])
+  pub read_more : (t : Transaction) → is_blank line ≡ false → transaction_at_line (number + 1) (transaction_of_line line) ≡ Ok t → t.position.0 ≤ greatest → HasRead changes (number + 1) rest (done ++ t ∷ [])
   read_more t full is own = record { low = All-push IsLow done t so_far.low own; meaning = full_line (Ok t) full is; counted = fewer_left }
 
   pub blank_read : is_blank line ≡ true → HasRead changes (number + 1) rest done
   blank_read blank = record { low = so_far.low; meaning = here ∙ rw blank refl; counted = fewer_left }
 
   -- a line that is refused refuses the file
-  pub refuses_all : (fault : Fault) → is_blank line ≡ false → ReadsRising (Err fault) (numbered (number + 1) (line_of line)) → ReadsAll changes (Err fault)
+  pub refuses_all : (fault : Fault) → is_blank line ≡ false → ReadsRising (Err fault) (transaction_at_line (number + 1) (transaction_of_line line)) → ReadsAll changes (Err fault)
   refuses_all Usage full is = is
   refuses_all (Rules which place column why) full is = is
   refuses_all (Change place why) full is = full_line (Err (Change place why)) full is

@@ -8,7 +8,7 @@ use Rattle.std.proofs.lemmas.List.Elements.{All-nil, All-cons}
 use Rattle.std.proofs.lemmas.List.Splits.{slice_split_at, slice_split_none}
 use Rattle.ps_rows.specs.declared.changes.Transaction.{Transaction}
 use Rattle.ps_changes.specs.declared.faults.ChangeFault.{ChangeFault}
-use Rattle.ps_changes.specs.Lines.{line_of}
+use Rattle.ps_changes.specs.Lines.{transaction_of_line}
 use Rattle.ps_changes.specs.Laws.{ReadsLines}
 use Rattle.ps_definitions.specs.declared.definitions.Definition.{Definition}
 use Rattle.ps_definitions.specs.RuleSets.{RuleSet}
@@ -18,8 +18,8 @@ use Rattle.ps_store.specs.Ledgers.{timed_of}
 use Rattle.ps_store.specs.Originals.{timed}
 use Rattle.ps_files.specs.declared.faults.Fault.{Fault}
 use Rattle.ps_files.specs.declared.faults.Limit.{Limit}
-use Rattle.ps_files.specs.ChangeFiles.{◌>>=◌, rising, numbered, line_fault, first_passed, unless_passed, within_limits, accepted, transactions_from, transactions_of, all_from, all_transactions_of, admitted}
-use Rattle.ps_files.specs.ChangeGrammar.{HasNoFeed, AreLines, last_line, next_line, Rises, AnyOrder, AreTransactions, no_lines, blank_line, one_line, IsFileOf, IsChangeFile, IsLooseFile}
+use Rattle.ps_files.specs.ChangeFiles.{◌>>=◌, rising, transaction_at_line, line_fault, first_passed, unless_passed, within_limits, accepted, transactions_from, transactions_of, all_from, all_transactions_of, admitted}
+use Rattle.ps_files.specs.ChangeGrammar.{HasNoFeed, AreLines, last_line, next_line, IsPastLast, AnyOrder, AreTransactions, no_lines, blank_line, one_line, IsFileOf, IsChangeFile, IsLooseFile}
 use Rattle.ps_files.proofs.Reaching.{last_more}
 
 -- ---- lines
@@ -54,7 +54,7 @@ lines_are _ _ (next_line line rest lines free more) = slice_split_at is_feed lin
 
 module _ (spelled : ReadsLines) (definitions : List Definition) where
   -- a line that spells a transaction is accepted as far as no limit is passed
-  accepts : (done : List Transaction) (number : ℕ) (line : List ℕ) (t : Transaction) → line_of line ≡ Ok t → last_position 0 done < t.position.0
+  accepts : (done : List Transaction) (number : ℕ) (line : List ℕ) (t : Transaction) → transaction_of_line line ≡ Ok t → last_position 0 done < t.position.0
       → accepted definitions done number line ≡ within_limits definitions done t
   accepts done number line t is later =
       let past : nat_lt (last_position 0 done) t.position.0 ≡ true = grind (arith, nat_tests) in
@@ -66,7 +66,7 @@ module _ (spelled : ReadsLines) (definitions : List Definition) where
   same_taken done t None f g same = same
   same_taken done t (Some limit) f g same = refl
 
-  pub only_from : (done : List Transaction) (number last : ℕ) (lines : List (List ℕ)) (ts : List Transaction) → last ≡ last_position 0 done → AreTransactions Rises last lines ts
+  pub only_from : (done : List Transaction) (number last : ℕ) (lines : List (List ℕ)) (ts : List Transaction) → last ≡ last_position 0 done → AreTransactions IsPastLast last lines ts
       → transactions_from definitions done number lines ≡ admitted definitions done ts
   only_from done number _ _ _ is (no_lines last) = refl
   only_from done number _ _ _ is (blank_line last line lines ts blank more) = rw blank (only_from done (number + 1) last lines ts is more)
@@ -83,8 +83,8 @@ module _ (spelled : ReadsLines) (definitions : List Definition) where
   taken_is t given None is = cc
   taken_is t given (Some limit) is = cc
 
-  spells : (done : List Transaction) (number : ℕ) (line : List ℕ) (given : Transaction) (r : Result Transaction ChangeFault) → line_of line ≡ r
-      → (rising number (last_position 0 done) r >>= within_limits definitions done) ≡ Ok given → (line_of line ≡ Ok given) × (last_position 0 done < given.position.0)
+  spells : (done : List Transaction) (number : ℕ) (line : List ℕ) (given : Transaction) (r : Result Transaction ChangeFault) → transaction_of_line line ≡ r
+      → (rising number (last_position 0 done) r >>= within_limits definitions done) ≡ Ok given → (transaction_of_line line ≡ Ok given) × (last_position 0 done < given.position.0)
   spells done number line given (Err fault) own is = cc
   spells done number line given (Ok t) own is = elim (cases_Bool (nat_lt (last_position 0 done) t.position.0)) [
     | inl later ↦
@@ -94,7 +94,7 @@ module _ (spelled : ReadsLines) (definitions : List Definition) where
   ]
 
   abbrev Found : List Transaction → List (List ℕ) → List Transaction → Type 0
-  Found done lines result = (ts : List Transaction) × (result ≡ done ++ ts) × AreTransactions Rises (last_position 0 done) lines ts
+  Found done lines result = (ts : List Transaction) × (result ≡ done ++ ts) × AreTransactions IsPastLast (last_position 0 done) lines ts
 
   -- a line that is not blank, before others
   one_found : (done : List Transaction) (number : ℕ) (line : List ℕ) (lines : List (List ℕ)) (result : List Transaction) → is_blank line ≡ false
@@ -103,11 +103,11 @@ module _ (spelled : ReadsLines) (definitions : List Definition) where
       → (r >>= λ taken. transactions_from definitions (done ++ taken ∷ []) (number + 1) lines) ≡ Ok result → Found done (line ∷ lines) result
   one_found done number line lines result full behind (Err fault) own is = cc
   one_found done number line lines result full behind (Ok t) own is =
-      let so = spells done number line t (line_of line) refl own in
+      let so = spells done number line t (transaction_of_line line) refl own in
       let left = behind (done ++ t ∷ []) is in (
         t ∷ left.0,
         left.1 ∙ append_assoc done (t ∷ []) left.0,
-        one_line (last_position 0 done) line lines t left.0 full ((spelled line t).0 so.0) so.1 (subst (λ p. AreTransactions Rises p lines left.0) (last_more 0 done t) left.2),
+        one_line (last_position 0 done) line lines t left.0 full ((spelled line t).0 so.0) so.1 (subst (λ p. AreTransactions IsPastLast p lines left.0) (last_more 0 done t) left.2),
       )
 
   pub found_from : (done : List Transaction) (number : ℕ) (lines : List (List ℕ)) (result : List Transaction) → transactions_from definitions done number lines ≡ Ok result
@@ -131,7 +131,7 @@ module _ (spelled : ReadsLines) where
   loose_from done number _ _ _ (blank_line last line lines ts blank more) = rw blank (loose_from done (number + 1) last lines ts more)
   loose_from done number _ _ _ (one_line last line lines t ts full own later more) =
       rw full
-      (ap (λ (r : Result Transaction ChangeFault). numbered number r >>= λ taken. all_from (done ++ taken ∷ []) (number + 1) lines) ((spelled line t).1 own)
+      (ap (λ (r : Result Transaction ChangeFault). transaction_at_line number r >>= λ taken. all_from (done ++ taken ∷ []) (number + 1) lines) ((spelled line t).1 own)
       ∙ loose_from (done ++ t ∷ []) (number + 1) t.position.0 lines ts more ∙ ap Ok (append_assoc done (t ∷ []) ts))
 
   abbrev Loose : List Transaction → ℕ → List (List ℕ) → List Transaction → Type 0
@@ -139,8 +139,8 @@ module _ (spelled : ReadsLines) where
 
   one_loose : (done : List Transaction) (number last : ℕ) (line : List ℕ) (lines : List (List ℕ)) (result : List Transaction) → is_blank line ≡ false
       → ((next : List Transaction) (position : ℕ) → all_from next (number + 1) lines ≡ Ok result → Loose next position lines result)
-      → (r : Result Transaction ChangeFault) → line_of line ≡ r
-      → (numbered number r >>= λ taken. all_from (done ++ taken ∷ []) (number + 1) lines) ≡ Ok result → Loose done last (line ∷ lines) result
+      → (r : Result Transaction ChangeFault) → transaction_of_line line ≡ r
+      → (transaction_at_line number r >>= λ taken. all_from (done ++ taken ∷ []) (number + 1) lines) ≡ Ok result → Loose done last (line ∷ lines) result
   one_loose done number last line lines result full behind (Err fault) own is = cc
   one_loose done number last line lines result full behind (Ok t) own is =
       let left = behind (done ++ t ∷ []) t.position.0 is in
@@ -155,7 +155,7 @@ module _ (spelled : ReadsLines) where
     | inl blank ↦
         let left = loose_found done (number + 1) last lines result (rw blank at is) in
         (left.0, left.1, blank_line last line lines left.0 blank left.2)
-    | inr full ↦ one_loose done number last line lines result full (λ next position. loose_found next (number + 1) position lines result) (line_of line) refl (rw full at is)
+    | inr full ↦ one_loose done number last line lines result full (λ next position. loose_found next (number + 1) position lines result) (transaction_of_line line) refl (rw full at is)
   ]
 
   -- ---- files
@@ -164,7 +164,7 @@ module _ (spelled : ReadsLines) where
   unfolding transactions_of
   file_found rules bytes transactions is =
       let found = found_from spelled rules.definitions [] 1 (lines_of bytes) transactions is in
-      record { lines = lines_of bytes; are = are_lines bytes; each = subst (AreTransactions Rises 0 (lines_of bytes)) (sym found.1) found.2 }
+      record { lines = lines_of bytes; are = are_lines bytes; each = subst (AreTransactions IsPastLast 0 (lines_of bytes)) (sym found.1) found.2 }
 
   pub file_only : (rules : RuleSet) (bytes : List ℕ) (transactions : List Transaction) → IsChangeFile bytes transactions
       → transactions_of rules bytes ≡ admitted rules.definitions [] transactions

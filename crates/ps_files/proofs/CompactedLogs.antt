@@ -16,8 +16,8 @@ use Rattle.ps_store.specs.declared.events.Event.{Event}
 use Rattle.ps_store.specs.declared.events.Event.TheVariants.{Compact}
 use Rattle.ps_store.specs.declared.fixed.Fixed.{Fixed}
 use Rattle.ps_store.specs.declared.stores.Store.{Store}
-use Rattle.ps_store.specs.Generations.{is_of, Lane}
-use Rattle.ps_store.specs.Ledgers.{Ledger, fresh, ledger_after, ledger_of, force_ops}
+use Rattle.ps_store.specs.Generations.{is_of_generation, Lane}
+use Rattle.ps_store.specs.Ledgers.{Ledger, fresh_ledger, ledger_after, ledger_of, force_ops}
 use Rattle.ps_store.specs.Originals.{in_bucket}
 use Rattle.ps_store.specs.Stores.{StoreStandsFor}
 use Rattle.ps_store.specs.Totals.{bucket_names_of}
@@ -27,7 +27,7 @@ use Rattle.ps_files.specs.declared.faults.Fault.{Fault}
 use Rattle.ps_files.specs.declared.faults.Fault.TheVariants.{Usage, Rules, Change, PastLimit, TooManyBuckets, Claims, Keys, TooLong, CannotRead, CannotWrite, Script, Memory}
 use Rattle.ps_files.specs.ChangeFiles.{transactions_of}
 use Rattle.ps_files.specs.Compacting.{compacted_at, reports_of, reports_text, compact_text, FindsReports, Reports}
-use Rattle.ps_files.specs.ReadingChanges.{Writes}
+use Rattle.ps_files.specs.ReadingChanges.{WritesFile}
 
 -- ---- names
 
@@ -115,7 +115,7 @@ module _ (fixed : Fixed) (history : List Event) where
     now = ledger_of fixed.rules (history ++ compacting c.done)
 
     folded : now ≡ fold ledger_after start (compacting c.done)
-    folded = fold-append ledger_after (fresh fixed.rules) history (compacting c.done)
+    folded = fold-append ledger_after (fresh_ledger fixed.rules) history (compacting c.done)
 
     names_are : bucket_names_of start ≡ c.done ++ name ∷ rest
     names_are = c.split ∙ ap (λ (ns : List (List ℕ)). c.done ++ ns) next
@@ -129,7 +129,7 @@ module _ (fixed : Fixed) (history : List Event) where
         let there : IsTrue (list_any (bytes_eq name) (bucket_names_of start)) = ap (list_any (bytes_eq name)) names_are ∙ found name c.done rest in
         let ops = ((law fixed.rules history).exactly name).0 there in
         let same : now.entered ≡ start.entered = ap (λ (l : Ledger). l.entered) folded ∙ entered_kept c.done start in
-        let own : is_of now.force.number name ≡ true = ap (λ (l : Ledger). is_of l.force.number name) folded ∙ ap (λ (lane : Lane). is_of lane.number name) (force_kept c.done start) ∙ ops.0 in
+        let own : is_of_generation now.force.number name ≡ true = ap (λ (l : Ledger). is_of_generation l.force.number name) folded ∙ ap (λ (lane : Lane). is_of_generation lane.number name) (force_kept c.done start) ∙ ops.0 in
         let some : in_bucket name now.entered ≢ [] = λ none. ops.1 (ap (in_bucket name) (sym same) ∙ none) in
         subst (λ (b : Bool). (if b then in_bucket name now.entered else []) ≢ []) (sym own) some
 
@@ -168,7 +168,7 @@ module _ (fixed : Fixed) (history : List Event) where
 -- ---- a change file
 
 module _ (rules : RuleSet) (bytes : List ℕ) where
-  pub reports_stop : (fault : Fault) → Writes rules (transactions_of rules bytes) (Err fault) → Reports rules bytes (Err fault)
+  pub reports_stop : (fault : Fault) → WritesFile rules (transactions_of rules bytes) (Err fault) → Reports rules bytes (Err fault)
   reports_stop Usage h = h
   reports_stop (Rules which line column why) h = h
   reports_stop (Change line why) h = h
@@ -182,7 +182,7 @@ module _ (rules : RuleSet) (bytes : List ℕ) where
   reports_stop (Script place cause) h = h
   reports_stop Memory h = tt
 
-  pub reports_found : (store : Store) (text : Vec ℕ Global) → (w : Writes rules (transactions_of rules bytes) (Ok store)) → text.items ≡ reports_text (reports_of (ledger_of rules w.2.history)) → FindsReports rules text bytes
+  pub reports_found : (store : Store) (text : Vec ℕ Global) → (w : WritesFile rules (transactions_of rules bytes) (Ok store)) → text.items ≡ reports_text (reports_of (ledger_of rules w.2.history)) → FindsReports rules text bytes
   unfolding compact_text
   reports_found store text w is = record {
     transactions = w.0;

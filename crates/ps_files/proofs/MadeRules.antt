@@ -12,7 +12,7 @@ use Rattle.ps_yaml.specs.declared.nodes.Node.TheVariants as nodes
 use Rattle.ps_yaml.specs.declared.nodes.Pair.{Pair}
 use Rattle.ps_yaml.specs.Lines.{lines_of, spaces, content, kind_of}
 use Rattle.ps_yaml.specs.Scalars.{is_line_end, trimmed, plain_part, plain_scalar, scalar_at}
-use Rattle.ps_yaml.specs.Trees.{name_len, is_entry, is_item, item_at, name_of as entry_name, value_at, new_name, document_of}
+use Rattle.ps_yaml.specs.Trees.{name_len, is_mapping_entry, is_item, item_at, entry_name as entry_name, value_at, new_name, document_of}
 use Rattle.ps_queries.specs.declared.expressions.Expr.{fold-roll-Expr, para-roll-Expr, out-Expr, out-roll-Expr}
 use Rattle.ps_queries.specs.declared.expressions.Expr.TheOpen as layers
 use Rattle.ps_queries.specs.declared.expressions.Expr.TheVariants as exprs
@@ -20,7 +20,7 @@ use Rattle.ps_queries.specs.declared.expressions.Operator.TheVariants as operato
 use Rattle.ps_queries.specs.declared.subjects.Subject.TheVariants as subjects
 use Rattle.ps_queries.specs.Subjects.{layer_speaks}
 use Rattle.ps_sql.specs.Grammar.{column, bucket, request_value, request, dotted, plain_name, prime, operator_at, step, more, chain, negation, is_arithmetic, whole, expr}
-use Rattle.ps_sql.specs.Inputs.{is_mark, is_keyword, name_of, plain_name_of, expect_mark, expect_keyword, expect_name}
+use Rattle.ps_sql.specs.Inputs.{is_mark, is_keyword, word_name, plain_name_of, expect_mark, expect_keyword, expect_name}
 use Rattle.ps_sql.specs.Queries.{begins_clause, output_name, output, item, items, outputs, condition, finish, table_clause, parameter_query, alias, source, data_query}
 use Rattle.ps_sql.specs.Readings.{lexemes_of, parameter_query_of, data_query_of}
 use Rattle.ps_sql.specs.Words.{is_left_out, clause_word, operator_word, value_word, keyword_of, single_mark, longest_mark, word_at}
@@ -73,7 +73,7 @@ is_text : is_utf8 made_rules ≡ true
 is_text = is_utf8-from_IsUtf8 made_rules (IsUtf8-from_ascii made_rules (each_ascii made_rules refl))
 
 is_document : document_of made_rules ≡ Ok document
-unfolding lines_of spaces content kind_of is_line_end trimmed plain_part plain_scalar scalar_at name_len is_entry is_item item_at entry_name value_at new_name document_of
+unfolding lines_of spaces content kind_of is_line_end trimmed plain_part plain_scalar scalar_at name_len is_mapping_entry is_item item_at entry_name value_at new_name document_of
 is_document = rw is_text refl
 
 -- ---- its shape
@@ -103,11 +103,11 @@ is_shaped = rw (map_layer _ 1 1, map_layer _ 2 3, map_layer _ 3 5, list_layer (i
 -- ---- its queries
 
 parameter_read : parameter_query_of parameter_text ≡ Ok users
-unfolding request_value request dotted plain_name prime operator_at step more chain negation is_arithmetic whole expr is_mark is_keyword name_of plain_name_of expect_mark expect_keyword expect_name begins_clause output_name output item items outputs condition finish table_clause parameter_query lexemes_of parameter_query_of is_left_out clause_word operator_word value_word keyword_of single_mark longest_mark word_at
+unfolding request_value request dotted plain_name prime operator_at step more chain negation is_arithmetic whole expr is_mark is_keyword word_name plain_name_of expect_mark expect_keyword expect_name begins_clause output_name output item items outputs condition finish table_clause parameter_query lexemes_of parameter_query_of is_left_out clause_word operator_word value_word keyword_of single_mark longest_mark word_at
 parameter_read = refl
 
 data_read : data_query_of data_text ≡ Ok owned_items
-unfolding column bucket dotted plain_name prime operator_at step more chain negation is_arithmetic whole expr is_mark is_keyword name_of expect_keyword expect_name item items outputs condition finish alias source data_query lexemes_of data_query_of is_left_out clause_word operator_word value_word keyword_of single_mark longest_mark word_at
+unfolding column bucket dotted plain_name prime operator_at step more chain negation is_arithmetic whole expr is_mark is_keyword word_name expect_keyword expect_name item items outputs condition finish alias source data_query lexemes_of data_query_of is_left_out clause_word operator_word value_word keyword_of single_mark longest_mark word_at
 data_read = refl
 
 -- ---- what stands in them

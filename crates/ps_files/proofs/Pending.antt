@@ -10,7 +10,7 @@ use Rattle.ps_store.specs.declared.entered.Entered.{Entered}
 use Rattle.ps_store.specs.Generations.{mark_of}
 use Rattle.ps_store.specs.Histories.{TellsOne}
 use Rattle.ps_store.specs.Steps.{marked}
-use Rattle.ps_store.specs.Ledgers.{Ledger, fresh, entries_after, next_ops, write_next, ledger_after, ledger_of, CanCome, IsLegalFrom}
+use Rattle.ps_store.specs.Ledgers.{Ledger, fresh_ledger, entries_after, next_ops, write_next, ledger_after, ledger_of, CanCome, IsLegalFrom}
 use Rattle.ps_store.specs.Limits.{usual_limits}
 use Rattle.ps_store.specs.Originals.{Timed, timed, key_of, after, entries_at, change_ops, ops_from, in_bucket}
 use Rattle.ps_store.specs.Runs.{refusal_of, run_from, stopped}
@@ -225,7 +225,7 @@ passed_later definitions (suc n) before (u ∷ us) none =
 -- ---- events
 
 pub ledger_more : (rules : RuleSet) (history : List Event) (event : Event) → ledger_of rules (history ++ event ∷ []) ≡ ledger_after (ledger_of rules history) event
-ledger_more rules history event = fold_more ledger_after (fresh rules) history event
+ledger_more rules history event = fold_more ledger_after (fresh_ledger rules) history event
 
 pub could_come : (history : List Event) (l : Ledger) (event : Event) → IsLegalFrom l (history ++ event ∷ []) → CanCome (fold ledger_after l history) event
 could_come [] l event legal = legal.0

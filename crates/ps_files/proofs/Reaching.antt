@@ -4,7 +4,7 @@ use Rattle.std.specs.Prelude.{MatchOption}
 use Rattle.std.proofs.lemmas.Bool.{ltb-true, le-leb}
 use Rattle.ps_rows.specs.declared.changes.Change.{Change as ChangeData}
 use Rattle.ps_rows.specs.declared.changes.Transaction.{Transaction}
-use Rattle.ps_changes.specs.Lines.{line_of}
+use Rattle.ps_changes.specs.Lines.{transaction_of_line}
 use Rattle.ps_changes.specs.declared.faults.ChangeFault.{ChangeFault}
 use Rattle.ps_definitions.specs.RuleSets.{RuleSet}
 use Rattle.ps_store.specs.declared.events.Event.{Event}
@@ -16,11 +16,11 @@ use Rattle.ps_store.specs.declared.stores.Checkpoint.{Checkpoint}
 use Rattle.ps_store.specs.declared.stores.Store.{Store}
 use Rattle.ps_store.specs.Histories.{LedgersTellHistories, LedgersTellOneGeneration}
 use Rattle.ps_store.specs.Laws.{last_position}
-use Rattle.ps_store.specs.Ledgers.{Ledger, fresh, head_of, timed_of, unwritten, entries_after, next_ops, write_next, ledger_after, ledger_of, reached_by}
+use Rattle.ps_store.specs.Ledgers.{Ledger, fresh_ledger, head_of, timed_of, unwritten, entries_after, next_ops, write_next, ledger_after, ledger_of, reached_by}
 use Rattle.ps_store.specs.Limits.{usual_limits}
 use Rattle.ps_store.specs.Originals.{Timed, timed, timed_from}
 use Rattle.ps_store.specs.Runs.{run_from}
-use Rattle.ps_store.specs.Stores.{StoreStandsFor, IsRefused, Commits, next_run}
+use Rattle.ps_store.specs.Stores.{StoreStandsFor, WriteIsRefused, Commits, next_run}
 use Rattle.ps_store.proofs.NoDeploys.{plain_push}
 use Rattle.ps_files.specs.declared.faults.Fault.{Fault}
 use Rattle.ps_files.specs.declared.faults.Fault.TheVariants.{Usage, Rules, Change, PastLimit, TooManyBuckets, Claims, Keys, TooLong, CannotRead, CannotWrite, Script, Memory}
@@ -29,8 +29,8 @@ use Rattle.ps_files.specs.declared.faults.Limit.TheVariants.{Entries, Operations
 use Rattle.ps_files.specs.declared.faults.LineFault.TheVariants.{NotRising}
 use Rattle.ps_file_lines.specs.Lines.{lines_of, is_blank}
 use Rattle.ps_files.specs.ChangeFiles.{rising, passed_by, first_passed, first_of, unless_passed, within_limits, accepted, transactions_from, transactions_of, ◌>>=◌}
-use Rattle.ps_files.specs.ReadingChanges.{usual, IsPlain, IsPending, HasCommitted, HasWritten, WritesSome, WritesAll, TakesLine, Writes, ReadsRising, lines_left, bytes_left}
-use Rattle.ps_files.specs.Committing.{writes, committing, history_of}
+use Rattle.ps_files.specs.ReadingChanges.{usual, IsPlain, IsPending, HasCommitted, HasWritten, WritesSome, WritesAll, TakesChangeLine, WritesFile, ReadsRising, lines_left, bytes_left}
+use Rattle.ps_files.specs.Committing.{write_events, committing, history_of}
 use Rattle.ps_files.proofs.Committing.{writes_more, history_more}
 use Rattle.ps_files.proofs.Pending.{drop_drop, take_on, length_take, length_drop, drop_front, take_front, Knows, passes_entries, passes_ops, run_passes, run_whole, passed_later, ledger_more, could_come, Follows, written_on, known}
 
@@ -107,7 +107,7 @@ module _ (rules : RuleSet) (done : List Transaction) (old : Store) (h : HasCommi
         passed_is = ap (λ (us : List Timed). first_passed rules.definitions us (unwritten now)) front ∙ ap (first_passed rules.definitions (timed done)) left;
         behind = omega (arith, at, last_more 0 done t, later);
         events = λ none.
-            append_assoc h.history (Feed t ∷ []) (writes (length t.changes) ++ Commit ∷ [])
+            append_assoc h.history (Feed t ∷ []) (write_events (length t.changes) ++ Commit ∷ [])
             ∙ ap (λ (es : List Event). es ++ committing t) h.events
             ∙ sym (history_more done t);
       }
@@ -144,10 +144,10 @@ module _ (law : LedgersTellHistories) (one : LedgersTellOneGeneration) (rules : 
   pub some_left : 0 < left → unwritten l ≡ [] → ⊥
   some_left some none = omega (arith, some, h.left_are, ap length none)
 
-  pub refused_by : (new : Store) (fault : WriteFault) (table id : List ℕ) (count : ℕ) → fault ≡ writing.TooWide table id count → IsRefused usual_limits l fault
+  pub refused_by : (new : Store) (fault : WriteFault) (table id : List ℕ) (count : ℕ) → fault ≡ writing.TooWide table id count → WriteIsRefused usual_limits l fault
       → WritesSome rules ts left passed new (Err (PastLimit (Entries count)))
   refused_by new fault table id count is r =
-      let why = subst (IsRefused usual_limits l) is r in
+      let why = subst (WriteIsRefused usual_limits l) is r in
       next_decides why.0 why.1 (Entries count) why.2
       (passes_entries rules front l knows why.0 why.3 ∙ ap (λ n. Some (Entries n)) (sym why.6))
 
@@ -163,10 +163,10 @@ module _ (law : LedgersTellHistories) (one : LedgersTellOneGeneration) (rules : 
       omega (arith, count, run, length-take 1000 (unwritten l), h.left_are)
 
   more_events : (n : ℕ) → 1 ≤ n → n ≤ left → n ≡ (next_run (usual rules) h.history 1000).count → passed ≡ None
-      → (h.history ++ Write n ∷ []) ++ (writes (left - n) ++ Commit ∷ []) ≡ history_of ts
+      → (h.history ++ Write n ∷ []) ++ (write_events (left - n) ++ Commit ∷ []) ≡ history_of ts
   more_events n some many count none =
       let whole : n ≡ min 1000 left = whole_batch n none count in
-      append_assoc h.history (Write n ∷ []) (writes (left - n) ++ Commit ∷ [])
+      append_assoc h.history (Write n ∷ []) (write_events (left - n) ++ Commit ∷ [])
       ∙ ap (λ (es : List Event). h.history ++ (es ++ Commit ∷ [])) (sym (writes_more left n (omega (arith, some, many)) whole))
       ∙ h.events none
 
@@ -174,7 +174,7 @@ module _ (law : LedgersTellHistories) (one : LedgersTellOneGeneration) (rules : 
       → WritesSome rules ts left passed new (Ok n)
   wrote_some limit n new size some count stands =
       let now : Ledger = ledger_of rules (h.history ++ Write n ∷ []) in
-      let can = could_come h.history (fresh rules) (Write n) stands.legal in
+      let can = could_come h.history (fresh_ledger rules) (Write n) stands.legal in
       let many : n ≤ length (unwritten l) = can.1 in
       let next : now ≡ fold write_next l (take n (unwritten l)) = ledger_more rules h.history (Write n) in
       let on : Follows l (fold write_next l (take n (unwritten l))) (length (take n (unwritten l))) = written_on (take n (unwritten l)) l in
@@ -232,7 +232,7 @@ module _ (law : LedgersTellHistories) (one : LedgersTellOneGeneration) (rules : 
         written = ap (λ (x : Ledger). x.written) next ∙ written_all none;
         position = ap (λ (x : Ledger). x.position) next ∙ reached_last none;
         events =
-            ap (λ (es : List Event). h.history ++ (es ++ Commit ∷ [])) (sym (ap writes none))
+            ap (λ (es : List Event). h.history ++ (es ++ Commit ∷ [])) (sym (ap write_events none))
             ∙ h.events (none_passes_left none);
       }
 
@@ -265,11 +265,11 @@ module _ (rules : RuleSet) (done : List Transaction) (number : ℕ) (line : List
   abbrev meant : Result Transaction Fault
   meant = accepted rules.definitions done number line
 
-  meant_from : (last : ℕ) (r : Result Transaction Fault) → last ≡ last_position 0 done → rising number last (line_of line) ≡ r → meant ≡ (r >>= within_limits rules.definitions done)
-  meant_from last r at is = ap (λ r. r >>= within_limits rules.definitions done) (ap (λ p. rising number p (line_of line)) (sym at) ∙ is)
+  meant_from : (last : ℕ) (r : Result Transaction Fault) → last ≡ last_position 0 done → rising number last (transaction_of_line line) ≡ r → meant ≡ (r >>= within_limits rules.definitions done)
+  meant_from last r at is = ap (λ r. r >>= within_limits rules.definitions done) (ap (λ p. rising number p (transaction_of_line line)) (sym at) ∙ is)
 
   -- a line that is not read is refused
-  pub not_read : (last : ℕ) (fault : Fault) (new : Store) → last ≡ last_position 0 done → ReadsRising (Err fault) (rising number last (line_of line)) → TakesLine rules done meant new (Err fault)
+  pub not_read : (last : ℕ) (fault : Fault) (new : Store) → last ≡ last_position 0 done → ReadsRising (Err fault) (rising number last (transaction_of_line line)) → TakesChangeLine rules done meant new (Err fault)
   not_read last Usage new at is = is
   not_read last (Rules which place column why) new at is = is
   not_read last (Change place why) new at is = meant_from last (Err (Change place why)) at is
@@ -283,13 +283,13 @@ module _ (rules : RuleSet) (done : List Transaction) (number : ℕ) (line : List
   not_read last (Script place cause) new at is = is
   not_read last Memory new at is = tt
 
-  module _ (last : ℕ) (t : Transaction) (at : last ≡ last_position 0 done) (is : rising number last (line_of line) ≡ Ok t) where
+  module _ (last : ℕ) (t : Transaction) (at : last ≡ last_position 0 done) (is : rising number last (transaction_of_line line) ≡ Ok t) where
     pub later : last_position 0 done < t.position.0
-    later = subst (λ p. p < t.position.0) at (past_last number last (line_of line) t is)
+    later = subst (λ p. p < t.position.0) at (past_last number last (transaction_of_line line) t is)
 
     -- a line that is read is taken as its transaction is
-    pub taken_so : (new : Store) (r : Result (Unit {0}) Fault) → TakesLine rules done (within_limits rules.definitions done t) new r → TakesLine rules done meant new r
-    taken_so new r h = subst (λ (m : Result Transaction Fault). TakesLine rules done m new r) (sym (meant_from last (Ok t) at is)) h
+    pub taken_so : (new : Store) (r : Result (Unit {0}) Fault) → TakesChangeLine rules done (within_limits rules.definitions done t) new r → TakesChangeLine rules done meant new r
+    taken_so new r h = subst (λ (m : Result Transaction Fault). TakesChangeLine rules done m new r) (sym (meant_from last (Ok t) at is)) h
 
 -- ---- a transaction
 
@@ -298,7 +298,7 @@ module _ (rules : RuleSet) (done : List Transaction) (t : Transaction) where
   first = first_passed rules.definitions (timed done) (timed_of t)
 
   -- a transaction that is not written is refused
-  pub not_written : (ts : List Transaction) (fault : Fault) (mid new : Store) → WritesAll rules ts first mid (Err fault) → TakesLine rules done (within_limits rules.definitions done t) new (Err fault)
+  pub not_written : (ts : List Transaction) (fault : Fault) (mid new : Store) → WritesAll rules ts first mid (Err fault) → TakesChangeLine rules done (within_limits rules.definitions done t) new (Err fault)
   not_written ts Usage mid new w = w
   not_written ts (Rules which place column why) mid new w = absurd w
   not_written ts (Change place why) mid new w = absurd w
@@ -312,7 +312,7 @@ module _ (rules : RuleSet) (done : List Transaction) (t : Transaction) where
   not_written ts (Script place cause) mid new w = w
   not_written ts Memory mid new w = tt
 
-  pub taken : (new : Store) → first ≡ None → HasCommitted rules (done ++ t ∷ []) new → TakesLine rules done (within_limits rules.definitions done t) new (Ok tt)
+  pub taken : (new : Store) → first ≡ None → HasCommitted rules (done ++ t ∷ []) new → TakesChangeLine rules done (within_limits rules.definitions done t) new (Ok tt)
   taken new e h = (t, ap (unless_passed t) e, h)
 
 -- ---- a file
@@ -353,7 +353,7 @@ module _ (rules : RuleSet) (changes : List ℕ) (number : ℕ) (bytes : Bor (Lis
       ∙ rw full (ap (λ x. x >>= λ t. transactions_from rules.definitions (so_far.done ++ t ∷ []) (number + 1 + 1) (lines_left rest)) is)
 
   -- a line more is taken
-  pub line_more : (new : Store) → is_blank line ≡ false → TakesLine rules so_far.done (accepted rules.definitions so_far.done (number + 1) line) new (Ok tt) → HasWritten rules changes (number + 1) rest new
+  pub line_more : (new : Store) → is_blank line ≡ false → TakesChangeLine rules so_far.done (accepted rules.definitions so_far.done (number + 1) line) new (Ok tt) → HasWritten rules changes (number + 1) rest new
   line_more new full takes = record {
     done = so_far.done ++ takes.0 ∷ [];
     committed = takes.2;
@@ -371,8 +371,8 @@ module _ (rules : RuleSet) (changes : List ℕ) (number : ℕ) (bytes : Bor (Lis
   }
 
   -- a line that is refused refuses the file
-  pub refuses : (fault : Fault) (new : Store) → is_blank line ≡ false → TakesLine rules so_far.done (accepted rules.definitions so_far.done (number + 1) line) new (Err fault)
-      → Writes rules (transactions_of rules changes) (Err fault)
+  pub refuses : (fault : Fault) (new : Store) → is_blank line ≡ false → TakesChangeLine rules so_far.done (accepted rules.definitions so_far.done (number + 1) line) new (Err fault)
+      → WritesFile rules (transactions_of rules changes) (Err fault)
   refuses Usage new full is = is
   refuses (Rules which place column why) new full is = is
   refuses (Change place why) new full is = full_line (Err (Change place why)) full is
@@ -387,5 +387,5 @@ module _ (rules : RuleSet) (changes : List ℕ) (number : ℕ) (bytes : Bor (Lis
   refuses Memory new full is = tt
 
 -- where no line is left, all is written
-pub all_written : (rules : RuleSet) (changes : List ℕ) (number : ℕ) (store : Store) → HasWritten rules changes number None store → Writes rules (transactions_of rules changes) (Ok store)
+pub all_written : (rules : RuleSet) (changes : List ℕ) (number : ℕ) (store : Store) → HasWritten rules changes number None store → WritesFile rules (transactions_of rules changes) (Ok store)
 all_written rules changes number store so_far = (so_far.done, so_far.meaning, so_far.committed)

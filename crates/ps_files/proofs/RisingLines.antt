@@ -2,7 +2,7 @@
 use Rattle.std.proofs.Common.{◌≡◌, ℕ, ◌+◌, ◌<◌, ◌≤◌, true, false, List, [], ◌∷◌, ◌++◌, Option, Some, None, Result, Ok, Err, length, refl, sym, ap, ◌∙◌, arith, subst, Bor, Vec}
 use Rattle.std.specs.declared.alloc.Global.{Global}
 use Rattle.ps_rows.specs.declared.changes.Transaction.{Transaction}
-use Rattle.ps_changes.specs.Lines.{line_of}
+use Rattle.ps_changes.specs.Lines.{transaction_of_line}
 use Rattle.ps_store.specs.Laws.{Rises, last_position}
 use Rattle.ps_files.specs.declared.faults.Fault.{Fault}
 use Rattle.ps_files.specs.declared.faults.Fault.TheVariants.{Usage, Rules, Change, PastLimit, TooManyBuckets, Claims, Keys, TooLong, CannotRead, CannotWrite, Script, Memory}
@@ -28,23 +28,23 @@ module _ (changes : List ℕ) (number : ℕ) (bytes : Bor (List ℕ)) (line : Li
   fewer_left : number + 1 + bytes_left rest ≤ length changes + 1
   fewer_left = omega (arith, so_far.counted, fewer bytes.now line rest splits)
 
-  full_line : (r : Result Transaction Fault) → is_blank line ≡ false → rising (number + 1) last (line_of line) ≡ r
+  full_line : (r : Result Transaction Fault) → is_blank line ≡ false → rising (number + 1) last (transaction_of_line line) ≡ r
       → rising_transactions_of changes ≡ (r >>= λ t. rising_from (done ++ t ∷ []) (number + 1 + 1) (lines_left rest))
   full_line r full is =
-      let same : rising (number + 1) (last_position 0 done) (line_of line) ≡ r = ap (λ p. rising (number + 1) p (line_of line)) (sym so_far.last_is) ∙ is in
+      let same : rising (number + 1) (last_position 0 done) (transaction_of_line line) ≡ r = ap (λ p. rising (number + 1) p (transaction_of_line line)) (sym so_far.last_is) ∙ is in
       here ∙ rw full (ap (λ x. x >>= λ t. rising_from (done ++ t ∷ []) (number + 1 + 1) (lines_left rest)) same)
 
   -- a transaction more is read
-  pub risen_more : (t : Transaction) → is_blank line ≡ false → rising (number + 1) last (line_of line) ≡ Ok t → HasRisen changes (number + 1) rest t.position.0 (done ++ t ∷ [])
+  pub risen_more : (t : Transaction) → is_blank line ≡ false → rising (number + 1) last (transaction_of_line line) ≡ Ok t → HasRisen changes (number + 1) rest t.position.0 (done ++ t ∷ [])
   risen_more t full is =
-      let later : last_position 0 done < t.position.0 = subst (λ p. p < t.position.0) so_far.last_is (past_last (number + 1) last (line_of line) t is) in
+      let later : last_position 0 done < t.position.0 = subst (λ p. p < t.position.0) so_far.last_is (past_last (number + 1) last (transaction_of_line line) t is) in
       record { rises = rises_more 0 done t so_far.rises later; last_is = sym (last_more 0 done t); meaning = full_line (Ok t) full is; counted = fewer_left }
 
   pub blank_risen : is_blank line ≡ true → HasRisen changes (number + 1) rest last done
   blank_risen blank = record { rises = so_far.rises; last_is = so_far.last_is; meaning = here ∙ rw blank refl; counted = fewer_left }
 
   -- a line that is refused refuses the file
-  pub refuses_rising : (fault : Fault) → is_blank line ≡ false → ReadsRising (Err fault) (rising (number + 1) last (line_of line)) → ReadsAllRising changes (Err fault)
+  pub refuses_rising : (fault : Fault) → is_blank line ≡ false → ReadsRising (Err fault) (rising (number + 1) last (transaction_of_line line)) → ReadsAllRising changes (Err fault)
   refuses_rising Usage full is = is
   refuses_rising (Rules which place column why) full is = is
   refuses_rising (Change place why) full is = full_line (Err (Change place why)) full is

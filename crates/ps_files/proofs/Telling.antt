@@ -4,21 +4,21 @@ use Rattle.std.proofs.Math.Seq.{drop-cons}
 use Rattle.std.proofs.lemmas.List.{append-nil}
 use Rattle.ps_io.specs.Contents.{Gains, GainsFront}
 use Rattle.ps_io.specs.Counts.{Rose}
-use Rattle.ps_files.specs.FaultTexts.{Tells}
-use Rattle.ps_files.specs.Saying.{joined}
+use Rattle.ps_files.specs.FaultTexts.{TellsText}
+use Rattle.ps_files.specs.Saying.{joined_pieces}
 
 gains_more : (old mid new : Option (List ℕ)) (a b : List ℕ) → Gains old mid a → Gains mid new b → Gains old new (a ++ b)
 gains_more None mid new a b g h = h ∙ ap (option_map (λ taken. taken ++ b)) g
 gains_more (Some x) mid new a b g h = h ∙ ap (option_map (λ taken. taken ++ b)) g ∙ ap Some (append_assoc x a b)
 
-joined_more : (piece : Bor (List ℕ)) (pieces : List (Bor (List ℕ))) → joined (piece ∷ pieces) ≡ piece.now ++ joined pieces
+joined_more : (piece : Bor (List ℕ)) (pieces : List (Bor (List ℕ))) → joined_pieces (piece ∷ pieces) ≡ piece.now ++ joined_pieces pieces
 joined_more piece [] = sym (append-nil piece.now)
 joined_more piece (next ∷ pieces) = refl
 
 -- all pieces before those that are left were taken, and nothing failed
 pub record Telling (old now : Option (List ℕ)) (before count : ℕ) (all left : List (Bor (List ℕ))) : Type 0 where
   pub done : List ℕ
-  pub split : joined all ≡ done ++ joined left
+  pub split : joined_pieces all ≡ done ++ joined_pieces left
   pub took : Gains old now done
   pub same : count ≡ before
 
@@ -30,21 +30,21 @@ pub telling_more : (old mid now : Option (List ℕ)) (before middle count : ℕ)
     → Telling old mid before middle all (piece ∷ left) → Gains mid now piece.now → count ≡ middle → Telling old now before count all left
 telling_more old mid now before middle count all left piece t g same = record {
   done = t.done ++ piece.now;
-  split = t.split ∙ ap (λ x. t.done ++ x) (joined_more piece left) ∙ sym (append_assoc t.done piece.now (joined left));
+  split = t.split ∙ ap (λ x. t.done ++ x) (joined_more piece left) ∙ sym (append_assoc t.done piece.now (joined_pieces left));
   took = gains_more old mid now t.done piece.now t.took g;
   same = same ∙ t.same;
 }
 
-pub told : (old now : Option (List ℕ)) (before count : ℕ) (all : List (Bor (List ℕ))) → Telling old now before count all [] → Tells old now before count (joined all)
+pub told : (old now : Option (List ℕ)) (before count : ℕ) (all : List (Bor (List ℕ))) → Telling old now before count all [] → TellsText old now before count (joined_pieces all)
 told old now before count all t = inl (subst (Gains old now) (sym (t.split ∙ append-nil t.done)) t.took)
 
 pub stopped : (old mid now : Option (List ℕ)) (before middle count : ℕ) (all left : List (Bor (List ℕ))) (piece : Bor (List ℕ))
-    → Telling old mid before middle all (piece ∷ left) → GainsFront mid now piece.now → Rose middle count → Tells old now before count (joined all)
+    → Telling old mid before middle all (piece ∷ left) → GainsFront mid now piece.now → Rose middle count → TellsText old now before count (joined_pieces all)
 stopped old mid now before middle count all left piece t (front, rest, is, g) rose = inr (
   (
     t.done ++ front,
-    rest ++ joined left,
-    t.split ∙ ap (λ x. t.done ++ x) (joined_more piece left) ∙ ap (λ x. t.done ++ (x ++ joined left)) is ∙ ap (λ x. t.done ++ x) (append_assoc front rest (joined left)) ∙ sym (append_assoc t.done front (rest ++ joined left)),
+    rest ++ joined_pieces left,
+    t.split ∙ ap (λ x. t.done ++ x) (joined_more piece left) ∙ ap (λ x. t.done ++ (x ++ joined_pieces left)) is ∙ ap (λ x. t.done ++ x) (append_assoc front rest (joined_pieces left)) ∙ sym (append_assoc t.done front (rest ++ joined_pieces left)),
     gains_more old mid now t.done front t.took g,
   ),
   subst (λ x. Rose x count) t.same rose,

@@ -10,7 +10,7 @@ use Rattle.ps_files.specs.declared.faults.Fault.{Fault}
 use Rattle.ps_files.specs.declared.faults.Fault.TheVariants.{Usage, Rules, Change, PastLimit, TooManyBuckets, Claims, Keys, TooLong, CannotRead, CannotWrite, Script, Memory}
 use Rattle.ps_files.specs.declared.faults.Limit.{Limit}
 use Rattle.ps_files.specs.ChangeFiles.{CanBeFed, admitted, unless_passed, within_limits, ◌>>=◌}
-use Rattle.ps_files.specs.ReadingChanges.{usual, HasCommitted, TakesLine, Writes}
+use Rattle.ps_files.specs.ReadingChanges.{usual, HasCommitted, TakesChangeLine, WritesFile}
 use Rattle.ps_files.proofs.Reaching.{last_more}
 
 pub record IsWriting (rules : RuleSet) (made left : List Transaction) (store : Store) : Type 0 where
@@ -27,7 +27,7 @@ writing_starts rules made left store is can stands = record {
   can_be_fed = subst (CanBeFed 0) (sym is) can;
 }
 
-pub writing_ends : (rules : RuleSet) (made : List Transaction) (store : Store) → IsWriting rules made [] store → Writes rules (admitted rules.definitions [] made) (Ok store)
+pub writing_ends : (rules : RuleSet) (made : List Transaction) (store : Store) → IsWriting rules made [] store → WritesFile rules (admitted rules.definitions [] made) (Ok store)
 writing_ends rules made store w = (w.done, w.meaning, w.committed)
 
 same_taken : (t u : Transaction) (passed : Option Limit) → unless_passed t passed ≡ Ok u → t ≡ u
@@ -48,7 +48,7 @@ module _ (rules : RuleSet) (made left : List Transaction) (t : Transaction) (res
       → admitted rules.definitions [] made ≡ (r >>= λ taken. admitted rules.definitions (w.done ++ taken ∷ []) rest)
   left_by r is = w.meaning ∙ ap (admitted rules.definitions w.done) next ∙ ap (λ x. x >>= λ taken. admitted rules.definitions (w.done ++ taken ∷ []) rest) is
 
-  pub writing_more : (new : Store) → TakesLine rules w.done (within_limits rules.definitions w.done t) new (Ok tt) → IsWriting rules made rest new
+  pub writing_more : (new : Store) → TakesChangeLine rules w.done (within_limits rules.definitions w.done t) new (Ok tt) → IsWriting rules made rest new
   writing_more new takes =
       let same : t ≡ takes.0 = same_taken t takes.0 _ takes.1 in
       let at : t.position.0 ≡ last_position 0 (w.done ++ takes.0 ∷ []) = ap (λ (x : Transaction). x.position.0) same ∙ sym (last_more 0 w.done takes.0) in
@@ -59,7 +59,7 @@ module _ (rules : RuleSet) (made left : List Transaction) (t : Transaction) (res
         can_be_fed = subst (λ p. CanBeFed p rest) at can.2;
       }
 
-  pub writing_stops : (new : Store) (fault : Fault) → TakesLine rules w.done (within_limits rules.definitions w.done t) new (Err fault) → Writes rules (admitted rules.definitions [] made) (Err fault)
+  pub writing_stops : (new : Store) (fault : Fault) → TakesChangeLine rules w.done (within_limits rules.definitions w.done t) new (Err fault) → WritesFile rules (admitted rules.definitions [] made) (Err fault)
   writing_stops new Usage h = h
   writing_stops new (Rules which line column why) h = h
   writing_stops new (Change line why) h = left_by (Err (Change line why)) h

@@ -3,7 +3,7 @@ use Rattle.std.specs.Prelude.{ℕ, ◌<◌, ◌≤◌, ◌+◌, nat_lt, if◌the
 use Rattle.ps_rows.specs.declared.changes.Transaction.{Transaction}
 use Rattle.ps_changes.specs.declared.faults.ChangeFault.{ChangeFault}
 use Rattle.ps_changes.specs.declared.faults.ChangeFault.TheVariants.{LineTooLong, BadJson, BadShape, BadPosition, BadValue, Memory}
-use Rattle.ps_changes.specs.Lines.{line_of}
+use Rattle.ps_changes.specs.Lines.{transaction_of_line}
 use Rattle.ps_definitions.specs.declared.definitions.Definition.{Definition}
 use Rattle.ps_definitions.specs.RuleSets.{RuleSet}
 use Rattle.ps_store.specs.Laws.{last_position}
@@ -73,7 +73,7 @@ within_limits definitions done transaction = unless_passed transaction (first_pa
 
 -- the transaction of a line with that number, after others
 abbrev pub accepted : List Definition → List Transaction → ℕ → List ℕ → Result Transaction Fault
-accepted definitions done number line = rising number (last_position 0 done) (line_of line) >>= within_limits definitions done
+accepted definitions done number line = rising number (last_position 0 done) (transaction_of_line line) >>= within_limits definitions done
 
 -- the transactions of lines, counted from a number on, behind others: blank lines are skipped and counted, and the first line that is refused
 -- decides
@@ -90,16 +90,16 @@ transactions_of rules bytes = transactions_from rules.definitions [] 1 (lines_of
 -- ---- lines whose positions may stand still or fall
 
 -- the transaction of a line with that number, or the line's fault
-abbrev pub numbered : ℕ → Result Transaction ChangeFault → Result Transaction Fault
-numbered number (Ok transaction) = Ok transaction
-numbered number (Err fault) = Err (line_fault number fault)
+abbrev pub transaction_at_line : ℕ → Result Transaction ChangeFault → Result Transaction Fault
+transaction_at_line number (Ok transaction) = Ok transaction
+transaction_at_line number (Err fault) = Err (line_fault number fault)
 
 -- the transactions of lines, counted from a number on, behind others: blank lines are skipped and counted, and the first line that is refused
 -- decides
 abbrev pub all_from : List Transaction → ℕ → List (List ℕ) → Result (List Transaction) Fault
 all_from done number [] = Ok done
 all_from done number (line ∷ lines) = if is_blank line then all_from done (number + 1) lines else (do
-  transaction ← numbered number (line_of line)
+  transaction ← transaction_at_line number (transaction_of_line line)
   all_from (done ++ transaction ∷ []) (number + 1) lines)
 
 -- the transactions of a change file, whatever their positions, or the fault of the first line that is refused
@@ -113,7 +113,7 @@ all_transactions_of bytes = all_from [] 1 (lines_of bytes)
 abbrev pub rising_from : List Transaction → ℕ → List (List ℕ) → Result (List Transaction) Fault
 rising_from done number [] = Ok done
 rising_from done number (line ∷ lines) = if is_blank line then rising_from done (number + 1) lines else (do
-  transaction ← rising number (last_position 0 done) (line_of line)
+  transaction ← rising number (last_position 0 done) (transaction_of_line line)
   rising_from (done ++ transaction ∷ []) (number + 1) lines)
 
 -- the transactions of a change file whose positions rise, or the fault of the first line that is refused

@@ -21,8 +21,8 @@ pub data AreLines : List ℕ → List (List ℕ) → Type 0 where
 -- ---- transactions
 
 -- a position that stands behind another is past it, or any
-abbrev pub Rises : ℕ → ℕ → Type 0
-Rises last next = last < next
+abbrev pub IsPastLast : ℕ → ℕ → Type 0
+IsPastLast last next = last < next
 
 abbrev pub AnyOrder : ℕ → ℕ → Type 0
 AnyOrder last next = Unit {0}
@@ -44,7 +44,7 @@ pub record IsFileOf (Follows : ℕ → ℕ → Type 0) (bytes : List ℕ) (trans
 
 -- a change file, whose positions rise from past 0
 abbrev pub IsChangeFile : List ℕ → List Transaction → Type 0
-IsChangeFile bytes transactions = IsFileOf Rises bytes transactions
+IsChangeFile bytes transactions = IsFileOf IsPastLast bytes transactions
 
 -- one whose positions may stand in any order
 abbrev pub IsLooseFile : List ℕ → List Transaction → Type 0

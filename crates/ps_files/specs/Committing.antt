@@ -16,12 +16,12 @@ last_write zero = []
 last_write (suc n) = Write (suc n) ∷ []
 
 -- so many changes are written, batch by batch
-abbrev pub writes : ℕ → List Event
-writes n = replicate (n / batch) (Write batch) ++ last_write (n % batch)
+abbrev pub write_events : ℕ → List Event
+write_events n = replicate (n / batch) (Write batch) ++ last_write (n % batch)
 
 -- a transaction is fed, its changes are written, and it is committed
 abbrev pub committing : Transaction → List Event
-committing t = Feed t ∷ (writes (length t.changes) ++ Commit ∷ [])
+committing t = Feed t ∷ (write_events (length t.changes) ++ Commit ∷ [])
 
 abbrev pub history_of : List Transaction → List Event
 history_of transactions = flat_map committing transactions

@@ -72,5 +72,5 @@ abbrev pub fault_line : Fault → List ℕ
 fault_line fault = codes "powersync: " ++ fault_text fault ++ codes "\n"
 
 -- a sink took a text, or its count of faults rose and it took a front of it
-abbrev pub Tells : Option (List ℕ) → Option (List ℕ) → ℕ → ℕ → List ℕ → Type 0
-Tells old new before now text = Gains old new text ⊎ (GainsFront old new text × Rose before now)
+abbrev pub TellsText : Option (List ℕ) → Option (List ℕ) → ℕ → ℕ → List ℕ → Type 0
+TellsText old new before now text = Gains old new text ⊎ (GainsFront old new text × Rose before now)

@@ -8,7 +8,7 @@ use Rattle.ps_files.specs.declared.faults.Fault.TheVariants.{Usage, Rules, Chang
 use Rattle.ps_definitions.specs.RuleSets.{RuleSet}
 use Rattle.ps_queries.specs.declared.askers.Asker.{Asker}
 use Rattle.ps_token.specs.KeyFiles.{keys_of_file}
-use Rattle.ps_token.specs.KeyLists.{key_of}
+use Rattle.ps_token.specs.KeyLists.{key_of_kid}
 use Rattle.ps_token.specs.Tokens.{signed_token}
 use Rattle.ps_token.specs.declared.key_lists.Key.{Key}
 use Rattle.ps_token.specs.declared.faults.KeysFault.{KeysFault}
@@ -121,8 +121,8 @@ IsKeysFault Memory bytes = ⊥
 
 -- a line with a token is that of the key of the kid; no key has it; out of memory says nothing
 abbrev pub SignsLine : List Key → List ℕ → List ℕ → Result (List ℕ) SignFault → Type 0
-SignsLine keys kid payload (Ok line) = (key : Key) × (key_of kid keys ≡ Some key) × (line ≡ signed_token key kid payload ++ codes "\n")
-SignsLine keys kid payload (Err UnknownKey) = key_of kid keys ≡ None
+SignsLine keys kid payload (Ok line) = (key : Key) × (key_of_kid kid keys ≡ Some key) × (line ≡ signed_token key kid payload ++ codes "\n")
+SignsLine keys kid payload (Err UnknownKey) = key_of_kid kid keys ≡ None
 SignsLine keys kid payload (Err sign.Memory) = Unit {0}
 
 -- the asker of a claims file

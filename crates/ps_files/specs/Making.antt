@@ -5,8 +5,8 @@ use Rattle.ps_changes.specs.Writing.{line_text}
 use Rattle.ps_data.specs.Numbers.{decimal_of}
 
 -- the lines of transactions, each with a line feed
-abbrev pub lines_text : List Transaction → List ℕ
-lines_text transactions = flat_map (λ t. line_text t ++ codes "\n") transactions
+abbrev pub change_lines_text : List Transaction → List ℕ
+change_lines_text transactions = flat_map (λ t. line_text t ++ codes "\n") transactions
 
 -- how many transactions are to be made: a number from 1 to 100,000
 abbrev pub made_limit : ℕ
@@ -15,5 +15,5 @@ made_limit = 100000
 abbrev pub may_make : ℕ → Option ℕ
 may_make n = if nat_le 1 n && nat_le n made_limit then Some n else None
 
-abbrev pub count_of : List ℕ → Option ℕ
-count_of word = option_and_then may_make (decimal_of word)
+abbrev pub count_to_make : List ℕ → Option ℕ
+count_to_make word = option_and_then may_make (decimal_of word)

@@ -18,7 +18,7 @@ use Rattle.ps_files.specs.declared.faults.Fault.TheVariants.{Usage, Rules, Chang
 use Rattle.ps_files.specs.declared.faults.Limit.{Limit}
 use Rattle.ps_file_lines.specs.Lines.{lines_of}
 use Rattle.ps_files.specs.ChangeFiles.{transactions_of, transactions_from, first_passed}
-use Rattle.ps_files.specs.Committing.{writes, history_of}
+use Rattle.ps_files.specs.Committing.{write_events, history_of}
 
 -- ---- a store that transactions are written into
 
@@ -42,7 +42,7 @@ pub record IsPending (rules : RuleSet) (transactions : List Transaction) (left :
   pub left_are : length (unwritten (ledger_of rules history)) ≡ left
   pub passed_is : first_passed rules.definitions (take (ledger_of rules history).written (timed (ledger_of rules history).fed)) (unwritten (ledger_of rules history)) ≡ passed
   pub behind : (ledger_of rules history).position < last_position 0 transactions
-  pub events : passed ≡ None → history ++ (writes left ++ Commit ∷ []) ≡ history_of transactions
+  pub events : passed ≡ None → history ++ (write_events left ++ Commit ∷ []) ≡ history_of transactions
 
 -- each of the transactions is fed, written in batches and committed before the next, with no new rules: all changes are written, and the last
 -- position is the checkpoint's
@@ -92,20 +92,20 @@ WritesAll rules transactions passed new (Err (Script place cause)) = ⊥
 WritesAll rules transactions passed new (Err Memory) = Unit {0}
 
 -- a line's transaction was written and committed, or the line is refused
-abbrev pub TakesLine : RuleSet → List Transaction → Result Transaction Fault → Store → Result (Unit {0}) Fault → Type 0
-TakesLine rules done meant new (Ok taken) = (t : Transaction) × (meant ≡ Ok t) × HasCommitted rules (done ++ t ∷ []) new
-TakesLine rules done meant new (Err Usage) = ⊥
-TakesLine rules done meant new (Err (Rules which line column why)) = ⊥
-TakesLine rules done meant new (Err (Change line why)) = meant ≡ Err (Change line why)
-TakesLine rules done meant new (Err (PastLimit limit)) = meant ≡ Err (PastLimit limit)
-TakesLine rules done meant new (Err (TooManyBuckets count)) = ⊥
-TakesLine rules done meant new (Err Claims) = ⊥
-TakesLine rules done meant new (Err Keys) = ⊥
-TakesLine rules done meant new (Err (TooLong seen)) = ⊥
-TakesLine rules done meant new (Err (CannotRead name)) = ⊥
-TakesLine rules done meant new (Err CannotWrite) = ⊥
-TakesLine rules done meant new (Err (Script place cause)) = ⊥
-TakesLine rules done meant new (Err Memory) = Unit {0}
+abbrev pub TakesChangeLine : RuleSet → List Transaction → Result Transaction Fault → Store → Result (Unit {0}) Fault → Type 0
+TakesChangeLine rules done meant new (Ok taken) = (t : Transaction) × (meant ≡ Ok t) × HasCommitted rules (done ++ t ∷ []) new
+TakesChangeLine rules done meant new (Err Usage) = ⊥
+TakesChangeLine rules done meant new (Err (Rules which line column why)) = ⊥
+TakesChangeLine rules done meant new (Err (Change line why)) = meant ≡ Err (Change line why)
+TakesChangeLine rules done meant new (Err (PastLimit limit)) = meant ≡ Err (PastLimit limit)
+TakesChangeLine rules done meant new (Err (TooManyBuckets count)) = ⊥
+TakesChangeLine rules done meant new (Err Claims) = ⊥
+TakesChangeLine rules done meant new (Err Keys) = ⊥
+TakesChangeLine rules done meant new (Err (TooLong seen)) = ⊥
+TakesChangeLine rules done meant new (Err (CannotRead name)) = ⊥
+TakesChangeLine rules done meant new (Err CannotWrite) = ⊥
+TakesChangeLine rules done meant new (Err (Script place cause)) = ⊥
+TakesChangeLine rules done meant new (Err Memory) = Unit {0}
 
 -- a line is read as it is meant
 abbrev pub ReadsRising : Result Transaction Fault → Result Transaction Fault → Type 0
@@ -143,17 +143,17 @@ pub record HasWritten (rules : RuleSet) (bytes : List ℕ) (number : ℕ) (rest 
   pub counted : number + bytes_left rest ≤ length bytes + 1
 
 -- writing a change file commits its transactions, or refuses its first line that is refused
-abbrev pub Writes : RuleSet → Result (List Transaction) Fault → Result Store Fault → Type 0
-Writes rules meant (Ok store) = (transactions : List Transaction) × (meant ≡ Ok transactions) × HasCommitted rules transactions store
-Writes rules meant (Err Usage) = ⊥
-Writes rules meant (Err (Rules which line column why)) = ⊥
-Writes rules meant (Err (Change line why)) = meant ≡ Err (Change line why)
-Writes rules meant (Err (PastLimit limit)) = meant ≡ Err (PastLimit limit)
-Writes rules meant (Err (TooManyBuckets count)) = ⊥
-Writes rules meant (Err Claims) = ⊥
-Writes rules meant (Err Keys) = ⊥
-Writes rules meant (Err (TooLong seen)) = ⊥
-Writes rules meant (Err (CannotRead name)) = ⊥
-Writes rules meant (Err CannotWrite) = ⊥
-Writes rules meant (Err (Script place cause)) = ⊥
-Writes rules meant (Err Memory) = Unit {0}
+abbrev pub WritesFile : RuleSet → Result (List Transaction) Fault → Result Store Fault → Type 0
+WritesFile rules meant (Ok store) = (transactions : List Transaction) × (meant ≡ Ok transactions) × HasCommitted rules transactions store
+WritesFile rules meant (Err Usage) = ⊥
+WritesFile rules meant (Err (Rules which line column why)) = ⊥
+WritesFile rules meant (Err (Change line why)) = meant ≡ Err (Change line why)
+WritesFile rules meant (Err (PastLimit limit)) = meant ≡ Err (PastLimit limit)
+WritesFile rules meant (Err (TooManyBuckets count)) = ⊥
+WritesFile rules meant (Err Claims) = ⊥
+WritesFile rules meant (Err Keys) = ⊥
+WritesFile rules meant (Err (TooLong seen)) = ⊥
+WritesFile rules meant (Err (CannotRead name)) = ⊥
+WritesFile rules meant (Err CannotWrite) = ⊥
+WritesFile rules meant (Err (Script place cause)) = ⊥
+WritesFile rules meant (Err Memory) = Unit {0}

@@ -41,13 +41,13 @@ rules_fault (rules.TooManyBranches line column) = Rules First line column TooMan
 rules_fault (rules.UnmatchedParameter line column) = Rules First line column UnmatchedParameter
 rules_fault rules.Memory = Memory
 
-abbrev pub or_fault : {A : Type 0} → Result A RulesFault → Result A Fault
-or_fault (Ok x) = Ok x
-or_fault (Err fault) = Err (rules_fault fault)
+abbrev pub or_rules_fault : {A : Type 0} → Result A RulesFault → Result A Fault
+or_rules_fault (Ok x) = Ok x
+or_rules_fault (Err fault) = Err (rules_fault fault)
 
 -- the rules of a file, or its first fault
 unfoldable pub rules_of_file : List ℕ → Result RuleSet Fault
-rules_of_file bytes = or_fault (rules_in bytes)
+rules_of_file bytes = or_rules_fault (rules_in bytes)
 
 -- a fault of the rules as one of the next rules
 abbrev pub of_next : Fault → Fault

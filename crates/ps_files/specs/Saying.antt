@@ -8,7 +8,7 @@ use Rattle.ps_files.specs.declared.faults.RulesFile.{RulesFile}
 use Rattle.ps_files.specs.declared.faults.RulesFile.TheVariants.{First, Next}
 use Rattle.ps_files.specs.declared.faults.ScriptCause.{ScriptCause}
 use Rattle.ps_files.specs.RulesFaults.{cause_text}
-use Rattle.ps_files.specs.FaultTexts.{status_of, line_fault_text, script_cause_text, fault_line, Tells}
+use Rattle.ps_files.specs.FaultTexts.{status_of, line_fault_text, script_cause_text, fault_line, TellsText}
 
 -- standard error before and after
 pub record Told : Type 0 where
@@ -20,13 +20,13 @@ pub record Told : Type 0 where
 -- the status of the fault, and its line on standard error
 pub record SaysFault (e : Told) (fault : Fault) (status : ℕ) : Type 0 where
   pub is : status ≡ status_of fault
-  pub line : Tells e.old e.new e.before e.now (fault_line fault)
+  pub line : TellsText e.old e.new e.before e.now (fault_line fault)
 
 -- pieces, one after another
-abbrev pub joined : List (Bor (List ℕ)) → List ℕ
-joined [] = []
-joined (piece ∷ []) = piece.now
-joined (piece ∷ next ∷ pieces) = piece.now ++ joined (next ∷ pieces)
+abbrev pub joined_pieces : List (Bor (List ℕ)) → List ℕ
+joined_pieces [] = []
+joined_pieces (piece ∷ []) = piece.now
+joined_pieces (piece ∷ next ∷ pieces) = piece.now ++ joined_pieces (next ∷ pieces)
 
 -- the front of the line of a rules file's fault
 abbrev pub front_of : RulesFile → List ℕ

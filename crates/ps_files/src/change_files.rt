@@ -1,6 +1,6 @@
 ghost use Rattle.std.specs.Prelude.{◌≡◌, ℕ, Err, List, Option, ◌<◌, ◌≤◌, ◌+◌, ◌^◌, ◌∷◌, ◌++◌, [], length, IfOk, OnOk};
 ghost use Rattle.ps_rows.specs.declared.changes.Transaction.{Transaction as TransactionData};
-ghost use Rattle.ps_changes.specs.Lines.{line_of};
+ghost use Rattle.ps_changes.specs.Lines.{transaction_of_line};
 ghost use Rattle.ps_definitions.specs.RuleSets.{RuleSet};
 ghost use Rattle.ps_store.specs.Laws.{last_position};
 ghost use Rattle.ps_store.specs.Ledgers.{timed_of};
@@ -8,7 +8,7 @@ ghost use Rattle.ps_store.specs.Limits.{greatest};
 ghost use Rattle.ps_store.specs.Originals.{timed};
 ghost use Rattle.ps_files.specs.declared.faults.Limit.{Limit as LimitData};
 ghost use Rattle.ps_files.specs.ChangeFiles.{rising, accepted, first_passed, transactions_of, within_limits, CanBeFed, admitted};
-ghost use Rattle.ps_files.specs.ReadingChanges.{ReadsRising, IsPending, HasCommitted, WritesSome, WritesAll, TakesLine, Writes};
+ghost use Rattle.ps_files.specs.ReadingChanges.{ReadsRising, IsPending, HasCommitted, WritesSome, WritesAll, TakesChangeLine, WritesFile};
 
 use crate::faults::{Fault, Limit, LineFault};
 use ps_changes::{ChangeFault, LineReader};
@@ -16,9 +16,7 @@ use ps_data::{Items, Memory};
 use ps_definitions::Rules;
 use ps_file_lines::{is_blank, split_line};
 use ps_rows::Transaction;
-use ps_store::{
-    FeedFault, Limits, NothingToCommit, Store, WriteFault, ledgers_tell_histories, ledgers_tell_ops,
-};
+use ps_store::{FeedFault, Limits, NothingToCommit, Store, WriteFault};
 use std::alloc::Global;
 
 // The most changes that are written at once.
@@ -30,7 +28,7 @@ const BATCH: u32 = 1000;
 /// wrote is dropped. The file has fewer than 2^63 bytes. Out of memory, it fails with `Memory`.
 pub fn write_changes<'a>(alloc: Global, rules: Rules, changes: &[u8]) -> Result<Store, Fault<'a>>
     requires { length changes.now < 2 ^ 63 }
-    ensures { Writes rules (transactions_of rules changes.now) result }
+    ensures { WritesFile rules (transactions_of rules changes.now) result }
 {
     let mut store = Store::new(alloc, rules, Limits::usual())?;
     let mut reader = LineReader::new(alloc);
@@ -58,7 +56,7 @@ fn write_line<'a>(
 ) -> Result<(), Fault<'a>>
     requires { (rules : RuleSet) × (done : List TransactionData) × HasCommitted rules done store.old }
     ensures { (rules : RuleSet) (done : List TransactionData) → HasCommitted rules done store.old
-        → TakesLine rules done (accepted rules.definitions done number line.now) store.new result }
+        → TakesChangeLine rules done (accepted rules.definitions done number line.now) store.new result }
 {
     let last = store.head();
     let transaction = read_rising(alloc, reader, line, number, last.0)?;
@@ -75,10 +73,10 @@ pub fn write_transaction<'a>(
     requires position { transaction.position.0 ≤ greatest }
     requires committed { (rules : RuleSet) × (done : List TransactionData) × HasCommitted rules done store.old × (last_position 0 done < transaction.position.0) }
     ensures { (rules : RuleSet) (done : List TransactionData) → HasCommitted rules done store.old → last_position 0 done < transaction.position.0
-        → TakesLine rules done (within_limits rules.definitions done transaction) store.new result }
+        → TakesChangeLine rules done (within_limits rules.definitions done transaction) store.new result }
 {
-    ledgers_tell_histories();
-    ledgers_tell_ops();
+    ps_store::laws::ledgers_tell_histories();
+    ps_store::laws::ledgers_tell_ops();
     let changes = transaction.changes.len();
     feed(alloc, store, transaction)?;
     write_fed(alloc, store, changes)?;
@@ -122,8 +120,8 @@ fn write_some<'a>(alloc: Global, store: &mut Store) -> Result<u32, Fault<'a>>
     ensures { (rules : RuleSet) (transactions : List TransactionData) (left : ℕ) (passed : Option LimitData) → IsPending rules transactions left passed store.old → 0 < left
         → WritesSome rules transactions left passed store.new result }
 {
-    ledgers_tell_histories();
-    ledgers_tell_ops();
+    ps_store::laws::ledgers_tell_histories();
+    ps_store::laws::ledgers_tell_ops();
     match store.write_batch(alloc, BATCH) {
         Ok(wrote) => Ok(wrote.changes),
         Err(WriteFault::TooWide { count, .. }) => Err(Fault::PastLimit {
@@ -142,8 +140,8 @@ fn commit(store: &mut Store)
     ensures { (rules : RuleSet) (transactions : List TransactionData) (passed : Option LimitData) → IsPending rules transactions 0 passed store.old
         → HasCommitted rules transactions store.new }
 {
-    ledgers_tell_histories();
-    ledgers_tell_ops();
+    ps_store::laws::ledgers_tell_histories();
+    ps_store::laws::ledgers_tell_ops();
     match store.commit() {
         Ok(_) | Err(NothingToCommit) => (),
     }
@@ -157,7 +155,7 @@ pub(crate) fn read_rising<'a>(
     number: u64,
     last: u64,
 ) -> Result<Transaction, Fault<'a>>
-    ensures read { ReadsRising result (rising number last (line_of line.now)) }
+    ensures read { ReadsRising result (rising number last (transaction_of_line line.now)) }
     ensures position { IfOk result (λ transaction. transaction.position.0 ≤ greatest) }
 {
     match reader.read_line(alloc, line) {
@@ -195,7 +193,7 @@ pub(crate) fn write_transactions<'a>(
     made: Items<Transaction>,
 ) -> Result<Store, Fault<'a>>
     requires { CanBeFed 0 made }
-    ensures { Writes rules (admitted rules.definitions [] made) result }
+    ensures { WritesFile rules (admitted rules.definitions [] made) result }
 {
     let mut store = Store::new(alloc, rules, Limits::usual())?;
     'made: for transaction in made.into_vec() {

@@ -2,8 +2,6 @@
 
 ghost use Rattle.ps_files.specs.ChangeGrammar.{LinesAreOne, ReadsChangeFiles, ReadsAllChangeFiles, ReadsLooseFiles};
 
-use ps_changes::lines_are_spelled;
-
 /// A law: the transactions that the bytes of a change file are, as a function, are those that its grammar spells, within the limits: bytes are lines in one way,
 /// blank lines are passed over, and each other line is a transaction. So it is also where positions may stand in any order.
 pub fn change_files_are_spelled()
@@ -12,5 +10,5 @@ pub fn change_files_are_spelled()
     ensures only { ReadsAllChangeFiles }
     ensures loose { ReadsLooseFiles }
 {
-    lines_are_spelled();
+    ps_changes::laws::lines_are_spelled();
 }

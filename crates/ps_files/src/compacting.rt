@@ -15,7 +15,7 @@ use ps_compact::Report;
 use ps_data::{Items, Memory, Text};
 use ps_definitions::Rules;
 use ps_io::Files;
-use ps_store::{CompactFault, Store, totals_tell_histories};
+use ps_store::{CompactFault, Store};
 use std::alloc::Global;
 
 /// What the compaction of a bucket did.
@@ -45,7 +45,7 @@ pub fn compact_all(alloc: Global, store: &mut Store) -> Result<Items<Compacted>,
     requires { (fixed : FixedSeen) × (history : List EventSeen) × StoreStandsFor fixed store.old history }
     ensures { IfOk result (λ reports. (fixed : FixedSeen) (history : List EventSeen) → StoreStandsFor fixed store.old history → reports ≡ reports_of (ledger_of fixed.rules history)) }
 {
-    totals_tell_histories();
+    ps_store::laws::totals_tell_histories();
     let names = store.bucket_names(alloc)?;
     let mut reports = Items::new(alloc);
     'names: for bucket in names.into_vec() {

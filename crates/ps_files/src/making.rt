@@ -2,15 +2,15 @@
 
 ghost use Rattle.std.specs.Prelude.{◌≡◌, ◌≤◌, ◌++◌, ◌<◌, IfOk, IfSome, OnOk, codes};
 ghost use Rattle.std.specs.List.{All};
-ghost use Rattle.ps_changes.specs.Writing.{IsWritable, line_text};
+ghost use Rattle.ps_changes.specs.Writing.{IsWritableTransaction, line_text};
 ghost use Rattle.ps_gen.specs.Made.{made_input};
-ghost use Rattle.ps_files.specs.Making.{count_of, lines_text, made_limit};
+ghost use Rattle.ps_files.specs.Making.{count_to_make, change_lines_text, made_limit};
 ghost use Rattle.ps_files.specs.MadeRules.{made_rule_set};
 ghost use Rattle.ps_files.specs.ReadingChanges.{HasCommitted};
 
 use crate::change_files::write_transactions;
 use crate::faults::Fault;
-use crate::laws::{made_input_is_admitted, made_rules_are_read};
+use crate::laws;
 use crate::rules_faults::read_rules_file;
 use ps_changes::write_line;
 use ps_data::{Memory, Text};
@@ -26,7 +26,7 @@ const MOST: u64 = 100000;
 
 /// How many transactions a word asks for: a number from 1 to 100,000.
 pub fn made_count(word: &Text) -> Option<u32>
-    ensures value { result ≡ count_of word.now }
+    ensures value { result ≡ count_to_make word.now }
     ensures within { IfSome result (λ count. count ≤ made_limit) }
 {
     let count = read_decimal(word)?;
@@ -39,7 +39,7 @@ pub fn made_count(word: &Text) -> Option<u32>
 
 // Prints the line of a transaction.
 fn push_line(alloc: Global, out: &mut Vec<u8>, transaction: &Transaction) -> Result<(), Memory>
-    requires { IsWritable transaction.now }
+    requires { IsWritableTransaction transaction.now }
     ensures { OnOk result (out.new.items ≡ out.old.items ++ (line_text transaction.now ++ codes "\n")) }
 {
     let line = write_line(alloc, transaction)?;
@@ -50,8 +50,8 @@ fn push_line(alloc: Global, out: &mut Vec<u8>, transaction: &Transaction) -> Res
 
 // Prints the lines of transactions.
 fn print_lines(alloc: Global, transactions: &[Transaction]) -> Result<Vec<u8>, Memory>
-    requires { All IsWritable transactions.now }
-    ensures { IfOk result (λ text. text.items ≡ lines_text transactions.now) }
+    requires { All IsWritableTransaction transactions.now }
+    ensures { IfOk result (λ text. text.items ≡ change_lines_text transactions.now) }
 {
     let mut out = Vec::new(alloc);
     'transactions: for transaction in transactions {
@@ -63,7 +63,7 @@ fn print_lines(alloc: Global, transactions: &[Transaction]) -> Result<Vec<u8>, M
 /// The change lines of so many made transactions: docs/FORMATS.md, "Made input".
 pub fn print_made(alloc: Global, count: u32) -> Result<Vec<u8>, Memory>
     requires { count ≤ made_limit }
-    ensures { IfOk result (λ text. text.items ≡ lines_text (made_input count)) }
+    ensures { IfOk result (λ text. text.items ≡ change_lines_text (made_input count)) }
 {
     let transactions = make_input(alloc, count)?;
     print_lines(alloc, transactions.as_slice())
@@ -73,7 +73,7 @@ pub fn print_made(alloc: Global, count: u32) -> Result<Vec<u8>, Memory>
 fn read_made_rules(alloc: Global) -> Result<Rules, Memory>
     ensures { IfOk result (λ rules. rules ≡ made_rule_set) }
 {
-    made_rules_are_read();
+    laws::made_rules_are_read();
     let text = make_rules(alloc)?;
     match read_rules_file(alloc, text.as_slice()) {
         Ok(rules) => Ok(rules),
@@ -88,7 +88,7 @@ pub fn write_made(alloc: Global, count: u32) -> Result<Store, Memory>
     requires { count ≤ made_limit }
     ensures { IfOk result (HasCommitted made_rule_set (made_input count)) }
 {
-    made_input_is_admitted();
+    laws::made_input_is_admitted();
     let rules = read_made_rules(alloc)?;
     let made = make_input(alloc, count)?;
     match write_transactions(alloc, rules, made) {

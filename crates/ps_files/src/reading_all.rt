@@ -1,9 +1,9 @@
 //! All transactions of a change file.
 
 ghost use Rattle.std.specs.Prelude.{◌≡◌, ◌≤◌, ◌<◌, ◌^◌, length, IfOk};
-ghost use Rattle.ps_changes.specs.Lines.{line_of};
+ghost use Rattle.ps_changes.specs.Lines.{transaction_of_line};
 ghost use Rattle.ps_store.specs.Limits.{greatest};
-ghost use Rattle.ps_files.specs.ChangeFiles.{line_fault, numbered};
+ghost use Rattle.ps_files.specs.ChangeFiles.{line_fault, transaction_at_line};
 ghost use Rattle.ps_files.specs.Loading.{Loads, MissesNamed};
 ghost use Rattle.ps_files.specs.ReadingAll.{FindsTransactions, IsTransactionsFault, ReadsAll};
 ghost use Rattle.ps_files.specs.ReadingChanges.{ReadsRising};
@@ -47,7 +47,7 @@ fn refused<'a>(line: u64, fault: ChangeFault) -> Fault<'a>
 
 // The transaction of the line of that number.
 fn read_numbered<'a>(alloc: Global, line: &[u8], number: u64) -> Result<Transaction, Fault<'a>>
-    ensures read { ReadsRising result (numbered number (line_of line.now)) }
+    ensures read { ReadsRising result (transaction_at_line number (transaction_of_line line.now)) }
     ensures position { IfOk result (λ transaction. transaction.position.0 ≤ greatest) }
 {
     match read_line(alloc, line) {

@@ -6,7 +6,7 @@ use Rattle.std.specs.Option.{option_or}
 use Rattle.serde_json.specs.Data.{Items, no_items, item}
 use Rattle.ps_data.specs.declared.values.Value.{Value}
 use Rattle.ps_data.specs.Values.{equal_sql, truth_of}
-use Rattle.ps_data.specs.Conversions.{value_of as json_value}
+use Rattle.ps_data.specs.Conversions.{json_value as json_value}
 use Rattle.ps_values.specs.Laws.{IsEqualWherePresent}
 use Rattle.ps_queries.specs.declared.expressions.Expr.{Expr, Expr-F, map-Expr, out-Expr, roll-Expr, out-roll-Expr, ind-Expr}
 use Rattle.ps_queries.specs.declared.expressions.Expr.TheOpen as layers
@@ -20,7 +20,7 @@ use Rattle.ps_sql_eval.specs.Evaluated.{values_in, values_of_items}
 use Rattle.ps_definitions.specs.declared.matches.Match.{Match}
 use Rattle.ps_definitions.specs.declared.branches.Branch.{Branch}
 use Rattle.ps_definitions.specs.declared.queries.Planned.{Planned}
-use Rattle.ps_definitions.specs.Branches.{has_parameter, match_of_side, match_of_sides, match_of_layer, match_of, branch_with, leaf_branch, joined, crossed, branches_in, branches_of}
+use Rattle.ps_definitions.specs.Branches.{has_parameter, match_of_side, match_of_sides, match_of_layer, match_of, branch_with, leaf_branch, joined_branches, crossed, branches_in, branches_of}
 use Rattle.ps_definitions.specs.Checks.{is_bound}
 use Rattle.ps_definitions.specs.Laws.{is_leaf_layer, is_leaf, EitherSide, BothSides, LeafAlone, SameTest}
 use Rattle.ps_definitions.specs.Meeting.{is_among, allows, meets, meets_some}
@@ -39,7 +39,7 @@ unfree branch = list_any (λ (m : Match). has_parameter m.other) branch.matches
 abbrev some_unfree : List Branch → Bool
 some_unfree branches = list_any unfree branches
 
-unfree_joined : (a b : Branch) → unfree (joined a b) ≡ (unfree a || unfree b)
+unfree_joined : (a b : Branch) → unfree (joined_branches a b) ≡ (unfree a || unfree b)
 unfree_joined a b = any_append (λ (m : Match). has_parameter m.other) a.matches b.matches
 
 either_false : (a b : Bool) → a ≡ false → b ≡ false → (a || b) ≡ false
@@ -54,16 +54,16 @@ right_false : (a b : Bool) → (a || b) ≡ false → b ≡ false
 right_false true b h = absurd (cc)
 right_false false b h = h
 
-join_free : (xs : List Branch) (y : Branch) → some_unfree xs ≡ false → unfree y ≡ false → some_unfree (map (λ (x : Branch). joined x y) xs) ≡ false
+join_free : (xs : List Branch) (y : Branch) → some_unfree xs ≡ false → unfree y ≡ false → some_unfree (map (λ (x : Branch). joined_branches x y) xs) ≡ false
 join_free [] y h g = refl
-join_free (x ∷ xs) y h g = either_false (unfree (joined x y)) (some_unfree (map (λ (z : Branch). joined z y) xs))
+join_free (x ∷ xs) y h g = either_false (unfree (joined_branches x y)) (some_unfree (map (λ (z : Branch). joined_branches z y) xs))
     (unfree_joined x y ∙ either_false (unfree x) (unfree y) (left_false (unfree x) (some_unfree xs) h) g)
     (join_free xs y (right_false (unfree x) (some_unfree xs) h) g)
 
 crossed_free : (xs ys : List Branch) → some_unfree xs ≡ false → some_unfree ys ≡ false → some_unfree (crossed xs ys) ≡ false
 crossed_free xs [] h g = refl
-crossed_free xs (y ∷ ys) h g = any_append unfree (map (λ (x : Branch). joined x y) xs) (crossed xs ys)
-    ∙ either_false (some_unfree (map (λ (x : Branch). joined x y) xs)) (some_unfree (crossed xs ys))
+crossed_free xs (y ∷ ys) h g = any_append unfree (map (λ (x : Branch). joined_branches x y) xs) (crossed xs ys)
+    ∙ either_false (some_unfree (map (λ (x : Branch). joined_branches x y) xs)) (some_unfree (crossed xs ys))
     (join_free xs y h (left_false (unfree y) (some_unfree ys) g))
     (crossed_free xs ys h (right_false (unfree y) (some_unfree ys) g))
 

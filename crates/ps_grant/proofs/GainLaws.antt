@@ -4,7 +4,7 @@ use Rattle.std.specs.Prelude.{◌||◌}
 use Rattle.std.specs.List.{list_any}
 use Rattle.std.specs.BTreeSet.{insert_key}
 use Rattle.std.specs.Ordering.{match_ordering}
-use Rattle.ps_grant.specs.Solving.{Gains}
+use Rattle.ps_grant.specs.Solving.{GainsItems}
 
 or_false : (a : Bool) → (a || false) ≡ a
 or_false true = refl
@@ -37,7 +37,7 @@ any_append p (x ∷ xs) ys = ap (λ b. p x || b) (any_append p xs ys) ∙ sym (o
 
 -- a key among those of a set, seen as items
 module _ {K A : Type 0} (R : K → K → Ordering) (view : K → A) (exact : (x y : K) → R x y ≡ Equal → view x ≡ view y) where
-  pub key_gained : (k : K) (ks : List K) → Gains (map view ks) (map view (insert_key R ks k)) (view k ∷ [])
+  pub key_gained : (k : K) (ks : List K) → GainsItems (map view ks) (map view (insert_key R ks k)) (view k ∷ [])
   key_gained k [] test = refl
   key_gained k (x ∷ xs) test =
       elim (R k x) as (λ o. R k x ≡ o → list_any test (map view (match_ordering o (k ∷ x ∷ xs) (x ∷ xs) (x ∷ insert_key R xs k))) ≡ ((test (view x) || list_any test (map view xs)) || (test (view k) || false))) [
@@ -49,7 +49,7 @@ module _ {K A : Type 0} (R : K → K → Ordering) (view : K → A) (exact : (x 
       ] refl
 
 -- what is gained in one step, of what is left to gain
-pub gain_step : {A : Type 0} (old new more whole rest : List A) → Gains old new more → whole ≡ more ++ rest → (test : A → Bool) → (list_any test new || list_any test rest) ≡ (list_any test old || list_any test whole)
+pub gain_step : {A : Type 0} (old new more whole rest : List A) → GainsItems old new more → whole ≡ more ++ rest → (test : A → Bool) → (list_any test new || list_any test rest) ≡ (list_any test old || list_any test whole)
 gain_step old new more whole rest gains is test =
     ap (λ b. b || list_any test rest) (gains test)
     ∙ or_regrouped (list_any test old) (list_any test more) (list_any test rest)

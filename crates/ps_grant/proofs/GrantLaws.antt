@@ -11,23 +11,23 @@ use Rattle.ps_queries.specs.declared.askers.Asker.{Asker}
 use Rattle.ps_queries.specs.Meaning.{holds}
 use Rattle.ps_definitions.specs.declared.definitions.Definition.{Definition}
 use Rattle.ps_definitions.specs.declared.queries.Planned.{Planned}
-use Rattle.ps_definitions.specs.Checks.{names_of}
+use Rattle.ps_definitions.specs.Checks.{names_of_parameters}
 use Rattle.ps_definitions.specs.Names.{has_repeated}
-use Rattle.ps_definitions.specs.RuleSets.{IsSound, IsSoundParameter}
+use Rattle.ps_definitions.specs.RuleSets.{IsSoundDefinition, IsSoundParameter}
 use Rattle.ps_queries.specs.Vectors.{SourceRow, output_value, asked_of, vector_values, vector_on}
 use Rattle.ps_definitions.specs.Vectors.{rows_read, query_vectors, parameter_vectors}
-use Rattle.ps_granted.specs.Grants.{given_for, grant_of, granted_by_query, copy_of}
-use Rattle.ps_grant.specs.Solving.{HaveSame, AreAsLong}
+use Rattle.ps_granted.specs.Grants.{given_for, grant_of, granted_by_query, granted_copy}
+use Rattle.ps_grant.specs.Solving.{HaveSameItems, AreAsLong}
 use Rattle.ps_granted.specs.Sources.{row_of}
 use Rattle.ps_grant.proofs.GainLaws.{any_append}
 
 -- ---- names
 
-names_differ : (names : List (List ℕ)) (parameters : List ParameterQuery) → names ≡ names_of parameters → AllByRecursion (IsSoundParameter names) parameters → has_repeated names ≡ false
+names_differ : (names : List (List ℕ)) (parameters : List ParameterQuery) → names ≡ names_of_parameters parameters → AllByRecursion (IsSoundParameter names) parameters → has_repeated names ≡ false
 names_differ names [] is sound = ap has_repeated is
 names_differ names (first ∷ others) is sound = ap has_repeated is ∙ sound.0.names_differ
 
-pub differing : (definition : Definition) → IsSound definition → has_repeated definition.names ≡ false
+pub differing : (definition : Definition) → IsSoundDefinition definition → has_repeated definition.names ≡ false
 differing definition sound = names_differ definition.names definition.parameters sound.names sound.parameters
 
 -- ---- lengths
@@ -57,7 +57,7 @@ module _ (names : List (List ℕ)) (asker : Asker) where
   query_long : (source : List SourceRow) (query : ParameterQuery) → list_any (is_off names) (query_vectors names asker source query) ≡ false
   query_long source query = any_flat_none (is_off names) (vector_on names asker query) (row_long query) (rows_read query.table source)
 
-vectors_long : (name : List ℕ) (names : List (List ℕ)) (parameters : List ParameterQuery) (queries : List Planned) (asker : Asker) (source : List SourceRow) → names ≡ names_of parameters
+vectors_long : (name : List ℕ) (names : List (List ℕ)) (parameters : List ParameterQuery) (queries : List Planned) (asker : Asker) (source : List SourceRow) → names ≡ names_of_parameters parameters
     → list_any (is_off names) (parameter_vectors (record { name = name; names = names; parameters = parameters; queries = queries }) asker source) ≡ false
 vectors_long name names [] queries asker source is = either_false (is_off names []) false (not_off names [] (sym (ap length is))) refl
 vectors_long name names (first ∷ others) queries asker source is = any_flat_none (is_off names) (query_vectors names asker source) (query_long names asker source) (first ∷ others)
@@ -71,15 +71,15 @@ all_from_none test (x ∷ xs) h =
     ] refl h
 
 -- each vector has a value for each parameter
-pub long : (definition : Definition) (asker : Asker) (source : List SourceRow) (vectors : List (List Value)) → IsSound definition → HaveSame vectors (parameter_vectors definition asker source) → AreAsLong definition.names vectors
+pub long : (definition : Definition) (asker : Asker) (source : List SourceRow) (vectors : List (List Value)) → IsSoundDefinition definition → HaveSameItems vectors (parameter_vectors definition asker source) → AreAsLong definition.names vectors
 long definition asker source vectors sound same = all_from_none (λ (v : List Value). length v == length definition.names) vectors
     (same (is_off definition.names) ∙ vectors_long definition.name definition.names definition.parameters definition.queries asker source sound.names)
 
 -- ---- copies
 
-module _ (asker : Asker) (names : List (List ℕ)) (xs ys : List (List Value)) (same : HaveSame xs ys) where
+module _ (asker : Asker) (names : List (List ℕ)) (xs ys : List (List Value)) (same : HaveSameItems xs ys) where
   grant_same : (planned : Planned) (entry : Key × Version) → grant_of asker names xs planned entry ≡ grant_of asker names ys planned entry
-  grant_same planned entry = λ i. cond (bytes_eq entry.0.0 planned.query.table && same (λ v. holds (given_for asker names (row_of entry) v) planned.query.condition) i) (copy_of asker planned entry) None
+  grant_same planned entry = λ i. cond (bytes_eq entry.0.0 planned.query.table && same (λ v. holds (given_for asker names (row_of entry) v) planned.query.condition) i) (granted_copy asker planned entry) None
 
   pub queries_same : (source : Source) (queries : List Planned) → flat_map (granted_by_query asker names xs source) queries ≡ flat_map (granted_by_query asker names ys source) queries
   queries_same source queries = λ i. flat_map (λ planned. filter_map (λ entry. grant_same planned entry i) source) queries

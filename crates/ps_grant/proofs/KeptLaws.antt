@@ -12,7 +12,7 @@ use Rattle.ps_rows.specs.Keys.{keys_total}
 use Rattle.ps_grant.specs.declared.sourcing.Version.{Version as Held}
 use Rattle.ps_granted.specs.declared.copies.Granted.{Granted}
 use Rattle.ps_grant.specs.Mapped.{version_of}
-use Rattle.ps_granted.specs.Latest.{object_of, is_superseded, kept, latest_after}
+use Rattle.ps_granted.specs.Latest.{granted_object, is_superseded, kept, latest_after}
 use Rattle.ps_grant.proofs.EntryLaws.{inserted, removed, put_is}
 use Rattle.ps_grant.proofs.StepLaws.{next_is, filter_taken, filter_passed}
 
@@ -50,15 +50,15 @@ change_taken position index cs i c before after whole within is e h =
 
 -- ---- copies, one by one
 
-pub kept_put : (old new : List (Key × Granted)) (object : Key) (copy : Granted) → object ≡ object_of copy → new ≡ insert_entry key_cmp old object copy → is_superseded (find key_cmp object old) copy ≡ false
+pub kept_put : (old new : List (Key × Granted)) (object : Key) (copy : Granted) → object ≡ granted_object copy → new ≡ insert_entry key_cmp old object copy → is_superseded (find key_cmp object old) copy ≡ false
     → new ≡ kept old copy
 kept_put old new object copy same is h =
     is ∙ put_is key_cmp object copy old
     ∙ ap (λ k. put key_cmp k copy old) same
-    ∙ sym (ap (λ b. cond b old (put key_cmp (object_of copy) copy old)) (ap (λ k. is_superseded (find key_cmp k old) copy) (sym same) ∙ h))
+    ∙ sym (ap (λ b. cond b old (put key_cmp (granted_object copy) copy old)) (ap (λ k. is_superseded (find key_cmp k old) copy) (sym same) ∙ h))
 
-pub kept_as_is : (old : List (Key × Granted)) (object : Key) (copy : Granted) → object ≡ object_of copy → is_superseded (find key_cmp object old) copy ≡ true → old ≡ kept old copy
-kept_as_is old object copy same h = sym (ap (λ b. cond b old (put key_cmp (object_of copy) copy old)) (ap (λ k. is_superseded (find key_cmp k old) copy) (sym same) ∙ h))
+pub kept_as_is : (old : List (Key × Granted)) (object : Key) (copy : Granted) → object ≡ granted_object copy → is_superseded (find key_cmp object old) copy ≡ true → old ≡ kept old copy
+kept_as_is old object copy same h = sym (ap (λ b. cond b old (put key_cmp (granted_object copy) copy old)) (ap (λ k. is_superseded (find key_cmp k old) copy) (sym same) ∙ h))
 
 pub copy_taken : (cs : List Granted) (i : ℕ) (c : Granted) (before after whole : List (Key × Granted)) → i < length cs → c ≡ get_or cs i c → after ≡ kept before c → latest_after before (drop i cs) ≡ whole
     → latest_after after (drop (i + 1) cs) ≡ whole

@@ -8,7 +8,7 @@ use Rattle.std.specs.Ordering.{is_eq, ordering_then}
 use Rattle.ps_data.specs.declared.values.Value.{Value}
 use Rattle.ps_data.specs.Values.{compare_values}
 use Rattle.ps_values.specs.Laws.{TiesTheSame}
-use Rattle.ps_grant.specs.Solving.{is_same, Gains}
+use Rattle.ps_grant.specs.Solving.{is_same, GainsItems}
 use Rattle.ps_grant.proofs.GainLaws.{key_gained}
 use Rattle.ps_grant.proofs.SolveLaws.{same_is}
 
@@ -23,7 +23,7 @@ module _ {K : Type 0} (view : K → List Value) (R : Value → Value → Orderin
   has_same w [] = refl
   has_same w (k ∷ ks) = λ i. is_eq (cmp_same w (view k) i) || has_same w ks i
 
-  pub vector_gained : TiesTheSame → (k : K) (old new : List K) → new ≡ insert_key (λ a b. slice_cmp R (view a) (view b)) old k → Gains (map view old) (map view new) (view k ∷ [])
+  pub vector_gained : TiesTheSame → (k : K) (old new : List K) → new ≡ insert_key (λ a b. slice_cmp R (view a) (view b)) old k → GainsItems (map view old) (map view new) (view k ∷ [])
   vector_gained ties k old new is test =
       ap (λ ks. list_any test (map view ks)) is
       ∙ key_gained (λ a b. slice_cmp R (view a) (view b)) view (λ x y h. same_is ties (view x) (view y) (ap is_eq (sym (cmp_same (view x) (view y)) ∙ h))) k old test

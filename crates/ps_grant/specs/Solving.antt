@@ -14,12 +14,12 @@ use Rattle.ps_definitions.specs.Vectors.{vector_at}
 use Rattle.ps_grant.specs.declared.solving.Allowed.{Allowed}
 
 -- lists that pass and fail the same tests of some item: they have the same items, however often and in whatever order
-abbrev pub HaveSame : {A : Type 0} → List A → List A → Type 0
-HaveSame {A} xs ys = (test : A → Bool) → list_any test xs ≡ list_any test ys
+abbrev pub HaveSameItems : {A : Type 0} → List A → List A → Type 0
+HaveSameItems {A} xs ys = (test : A → Bool) → list_any test xs ≡ list_any test ys
 
 -- a list with more items, in the same sense
-abbrev pub Gains : {A : Type 0} → List A → List A → List A → Type 0
-Gains {A} old new more = (test : A → Bool) → list_any test new ≡ (list_any test old || list_any test more)
+abbrev pub GainsItems : {A : Type 0} → List A → List A → List A → Type 0
+GainsItems {A} old new more = (test : A → Bool) → list_any test new ≡ (list_any test old || list_any test more)
 
 -- two vectors compare as equal
 abbrev pub is_same : List Value → List Value → Bool

@@ -3,7 +3,7 @@
 ghost use Rattle.std.specs.Prelude.{IfOk, OnOk, filter, flat_map, bytes_eq};
 ghost use Rattle.ps_queries.specs.Vectors.{SourceRow, vector_on as vectors_on, at_row};
 ghost use Rattle.ps_definitions.specs.Vectors.{query_vectors, parameter_vectors};
-ghost use Rattle.ps_grant.specs.Solving.{HaveSame, Gains};
+ghost use Rattle.ps_grant.specs.Solving.{HaveSameItems, GainsItems};
 ghost use Rattle.ps_granted.specs.Sources.{rows_in};
 ghost use Rattle.ps_grant.specs.Mapped.{kept_rows};
 
@@ -26,7 +26,7 @@ fn add_on(
     id: &Text,
     row: &Row,
 ) -> Result<(), Memory>
-    ensures { OnOk result (Gains vectors.old vectors.new (vectors_on names.now asker.now query.now (at_row id.now row.now))) }
+    ensures { OnOk result (GainsItems vectors.old vectors.new (vectors_on names.now asker.now query.now (at_row id.now row.now))) }
 {
     match vector_on(alloc, names, query, asker, id, row)? {
         Some(values) => vectors.insert(values.into_vec()),
@@ -44,7 +44,7 @@ fn add_from(
     asker: &Asker,
     rows: &Live,
 ) -> Result<(), Memory>
-    ensures { OnOk result (Gains vectors.old vectors.new
+    ensures { OnOk result (GainsItems vectors.old vectors.new
         (flat_map (vectors_on names.now asker.now query.now) (filter (λ (r : SourceRow). bytes_eq r.table table.now) (rows_in (kept_rows rows.now))))) }
 {
     'rows: for (key, version) in rows.iter() {
@@ -65,7 +65,7 @@ fn add_query(
     asker: &Asker,
     rows: &Live,
 ) -> Result<(), Memory>
-    ensures { OnOk result (Gains vectors.old vectors.new (query_vectors names.now asker.now (rows_in (kept_rows rows.now)) query.now)) }
+    ensures { OnOk result (GainsItems vectors.old vectors.new (query_vectors names.now asker.now (rows_in (kept_rows rows.now)) query.now)) }
 {
     match &query.table {
         Some(table) => add_from(alloc, vectors, names, query, table, asker, rows),
@@ -86,7 +86,7 @@ fn add_queries(
     asker: &Asker,
     rows: &Live,
 ) -> Result<(), Memory>
-    ensures { OnOk result (Gains vectors.old vectors.new (flat_map (query_vectors names.now asker.now (rows_in (kept_rows rows.now))) queries.now)) }
+    ensures { OnOk result (GainsItems vectors.old vectors.new (flat_map (query_vectors names.now asker.now (rows_in (kept_rows rows.now))) queries.now)) }
 {
     'queries: for query in queries {
         add_query(alloc, vectors, names, query, asker, rows)?;
@@ -102,7 +102,7 @@ pub(crate) fn vectors_of(
     asker: &Asker,
     rows: &Live,
 ) -> Result<VectorSet, Memory>
-    ensures { IfOk result (λ vectors. HaveSame vectors (parameter_vectors definition.now asker.now (rows_in (kept_rows rows.now)))) }
+    ensures { IfOk result (λ vectors. HaveSameItems vectors (parameter_vectors definition.now asker.now (rows_in (kept_rows rows.now)))) }
 {
     let mut vectors = VectorSet::new(alloc);
     if definition.parameters.is_empty() {

@@ -15,11 +15,10 @@ ghost use Rattle.ps_queries.specs.Vectors.{at_row};
 use crate::solving::{Allowed, all_allow as allow, allowed_by_all, solve};
 use crate::vectors::VectorSet;
 use ps_data::{Items, Memory, Text, Value};
-use ps_definitions::{Branch, Planned, conditions_hold_where_a_branch_is_met, spread_as_written};
+use ps_definitions::{Branch, Planned};
 use ps_queries::{Expr, same_for_every_bucket};
 use ps_rows::Row;
 use ps_sql_eval::{Asker, holds};
-use ps_values::{compare_is_a_total_order, equal_where_both_are_present};
 use std::alloc::Global;
 
 // Whether all expressions hold on a row, with no parameter in them.
@@ -64,8 +63,8 @@ fn some_allowed(
     requires differ { has_repeated names.now ≡ false }
     ensures { IfOk result (λ found. found ≡ list_any (all_allow names.now all.now) vectors.now) }
 {
-    equal_where_both_are_present();
-    compare_is_a_total_order();
+    ps_values::laws::equal_where_both_are_present();
+    ps_values::laws::compare_is_a_total_order();
     match solve(alloc, names, all, vectors.len())? {
         Some(listed) => Ok(any_known(vectors, names, all, listed.as_slice())),
         None => Ok(vectors.any_allowed(names, all)),
@@ -87,7 +86,7 @@ fn branch_is_met(
     requires unbound { IsUnbound branch.now }
     ensures { IfOk result (λ met. met ≡ list_any (λ vector. meets (given_for asker.now names.now (at_row id.now row.now) vector) branch.now) vectors.now) }
 {
-    equal_where_both_are_present();
+    ps_values::laws::equal_where_both_are_present();
     same_for_every_bucket();
     if !all_hold(alloc, branch.rest.as_slice(), asker, id, row)? {
         return Ok(false);
@@ -134,8 +133,8 @@ pub(crate) fn holds_for_a_vector(
     requires sound { IsSoundQuery names.now planned.now }
     ensures { IfOk result (λ held. held ≡ holds_for_some asker.now names.now vectors.now planned.now.query (at_row id.now row.now)) }
 {
-    conditions_hold_where_a_branch_is_met();
-    spread_as_written();
+    ps_definitions::laws::conditions_hold_where_a_branch_is_met();
+    ps_definitions::laws::spread_as_written();
     some_branch_is_met(
         alloc,
         planned.branches.as_slice(),

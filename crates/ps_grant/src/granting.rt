@@ -3,8 +3,8 @@
 ghost use Rattle.std.specs.Prelude.{◌≡◌, ◌++◌, IfOk, OnOk, flat_map, false};
 ghost use Rattle.std.specs.List.{AllByRecursion};
 ghost use Rattle.ps_definitions.specs.Names.{has_repeated};
-ghost use Rattle.ps_definitions.specs.RuleSets.{IsSound, IsSoundQuery};
-ghost use Rattle.ps_granted.specs.Grants.{copy_of, grant_of, granted_by_query, granted_by, granted};
+ghost use Rattle.ps_definitions.specs.RuleSets.{IsSoundDefinition, IsSoundQuery};
+ghost use Rattle.ps_granted.specs.Grants.{granted_copy, grant_of, granted_by_query, granted_by, granted};
 ghost use Rattle.ps_grant.specs.Solving.{AreAsLong};
 ghost use Rattle.ps_grant.specs.Mapped.{kept_rows, version_of};
 
@@ -27,7 +27,7 @@ fn copy_on(
     key: &(Text, Text),
     version: &Version,
 ) -> Result<Option<Granted>, Memory>
-    ensures { IfOk result (λ copy. copy ≡ copy_of asker.now planned.now (key.now, version_of version.now)) }
+    ensures { IfOk result (λ copy. copy ≡ granted_copy asker.now planned.now (key.now, version_of version.now)) }
 {
     let Some(id) = object_id(alloc, &planned.query, asker, &key.1, &version.row)? else {
         return Ok(None);
@@ -120,7 +120,7 @@ fn grant_definition(
     asker: &Asker,
     rows: &Live,
 ) -> Result<(), Memory>
-    requires { IsSound definition.now }
+    requires { IsSoundDefinition definition.now }
     ensures { OnOk result (copies.new ≡ copies.old ++ granted_by asker.now (kept_rows rows.now) definition.now) }
 {
     let vectors = vectors_of(alloc, definition, asker, rows)?;

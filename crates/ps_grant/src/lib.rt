@@ -13,6 +13,6 @@ mod vectors;
 
 pub use granting::grants_of;
 pub use latest::rows_of;
-pub use ps_granted::{Granted, latest_rows_are_unique};
+pub use ps_granted::Granted;
 pub use source_rows::SourceRows;
 pub use sourcing::source_at;

@@ -4,11 +4,10 @@ ghost use Rattle.std.specs.Prelude.{◌≡◌, [], ◌∷◌, OnOk, length};
 ghost use Rattle.std.specs.List.{list_any};
 ghost use Rattle.ps_data.specs.declared.values.Value.{Value as ValueData};
 ghost use Rattle.ps_data.specs.Values.{compare_values};
-ghost use Rattle.ps_grant.specs.Solving.{all_allow, is_same, Gains};
+ghost use Rattle.ps_grant.specs.Solving.{all_allow, is_same, GainsItems};
 
 use crate::solving::{Allowed, all_allow as allow};
 use ps_data::{Memory, Text, Value};
-use ps_values::compare_is_a_total_order;
 use std::alloc::Global;
 use std::collections::BTreeSet;
 use std::marker::Model;
@@ -45,9 +44,9 @@ impl VectorSet {
 
     /// Puts a vector among them.
     pub(crate) fn insert(&mut self, vector: Vec<Value>) -> Result<(), Memory>
-        ensures { OnOk result (Gains self.old self.new (vector.items ∷ [])) }
+        ensures { OnOk result (GainsItems self.old self.new (vector.items ∷ [])) }
     {
-        compare_is_a_total_order();
+        ps_values::laws::compare_is_a_total_order();
         values_are_in_order();
         self.known.insert(vector)?;
         Ok(())

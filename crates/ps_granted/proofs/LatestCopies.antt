@@ -10,7 +10,7 @@ use Rattle.ps_rows.specs.declared.shown.Shown.{Shown}
 use Rattle.ps_rows.specs.Source.{Key, key_cmp}
 use Rattle.ps_rows.specs.Keys.{keys_total, keys_exact}
 use Rattle.ps_granted.specs.declared.copies.Granted.{Granted}
-use Rattle.ps_granted.specs.Latest.{object_of, is_later, Rows, is_superseded, kept, latest_after, shown_of, rows_of, IsLatest, row_object, by_object, AreLatest, TiesAgree}
+use Rattle.ps_granted.specs.Latest.{granted_object, is_later, Rows, is_superseded, kept, latest_after, shown_of, rows_of, IsLatest, row_object, by_object, AreLatest, TiesAgree}
 
 -- ---- what is in a list, by recursion
 
@@ -130,7 +130,7 @@ later_not a b h = not_later_of a b (at_most_later a b h)
 -- ---- the copy of one object that stands
 
 abbrev goes_in : Key → Option Granted → Granted → Bool
-goes_in object known copy = eq_by_cmp key_cmp object (object_of copy) && not (is_superseded known copy)
+goes_in object known copy = eq_by_cmp key_cmp object (granted_object copy) && not (is_superseded known copy)
 
 abbrev latest_for : Key → Option Granted → List Granted → Option Granted
 latest_for object known [] = known
@@ -148,23 +148,23 @@ itself k = ap is_eq (tied_itself keys_total k)
 
 find_kept : (object : Key) (rows : Rows) (c : Granted)
     → find key_cmp object (kept rows c) ≡ (if goes_in object (find key_cmp object rows) c then Some c else find key_cmp object rows)
-find_kept object rows c = elim (eq_by_cmp key_cmp object (object_of c)) as (λ b. eq_by_cmp key_cmp object (object_of c) ≡ b
+find_kept object rows c = elim (eq_by_cmp key_cmp object (granted_object c)) as (λ b. eq_by_cmp key_cmp object (granted_object c) ≡ b
     → find key_cmp object (kept rows c) ≡ cond (b && not (is_superseded (find key_cmp object rows) c)) (Some c) (find key_cmp object rows)) [
-      | true ↦ λ e. here (same_object object (object_of c) e) (is_superseded (find key_cmp (object_of c) rows) c) refl
-      | false ↦ λ e. elsewhere e (is_superseded (find key_cmp (object_of c) rows) c)
+      | true ↦ λ e. here (same_object object (granted_object c) e) (is_superseded (find key_cmp (granted_object c) rows) c) refl
+      | false ↦ λ e. elsewhere e (is_superseded (find key_cmp (granted_object c) rows) c)
     ] refl where
-      put_there : find key_cmp object (put key_cmp (object_of c) c rows) ≡ cond (eq_by_cmp key_cmp object (object_of c)) (Some c) (find key_cmp object rows)
-      put_there = find-put key_cmp keys_total object (object_of c) c rows
+      put_there : find key_cmp object (put key_cmp (granted_object c) c rows) ≡ cond (eq_by_cmp key_cmp object (granted_object c)) (Some c) (find key_cmp object rows)
+      put_there = find-put key_cmp keys_total object (granted_object c) c rows
 
-      elsewhere : eq_by_cmp key_cmp object (object_of c) ≡ false → (b : Bool) → find key_cmp object (cond b rows (put key_cmp (object_of c) c rows)) ≡ find key_cmp object rows
+      elsewhere : eq_by_cmp key_cmp object (granted_object c) ≡ false → (b : Bool) → find key_cmp object (cond b rows (put key_cmp (granted_object c) c rows)) ≡ find key_cmp object rows
       elsewhere e true = refl
       elsewhere e false = put_there ∙ ap (λ t. cond t (Some c) (find key_cmp object rows)) e
 
-      here : object ≡ object_of c → (b : Bool) → is_superseded (find key_cmp (object_of c) rows) c ≡ b
-          → find key_cmp object (cond b rows (put key_cmp (object_of c) c rows)) ≡ cond (not (is_superseded (find key_cmp object rows) c)) (Some c) (find key_cmp object rows)
+      here : object ≡ granted_object c → (b : Bool) → is_superseded (find key_cmp (granted_object c) rows) c ≡ b
+          → find key_cmp object (cond b rows (put key_cmp (granted_object c) c rows)) ≡ cond (not (is_superseded (find key_cmp object rows) c)) (Some c) (find key_cmp object rows)
       here is true e = sym (ap (λ t. cond (not t) (Some c) (find key_cmp object rows)) (ap (λ k. is_superseded (find key_cmp k rows) c) is ∙ e))
       here is false e = put_there
-          ∙ ap (λ t. cond t (Some c) (find key_cmp object rows)) (ap (λ k. eq_by_cmp key_cmp k (object_of c)) is ∙ itself (object_of c))
+          ∙ ap (λ t. cond t (Some c) (find key_cmp object rows)) (ap (λ k. eq_by_cmp key_cmp k (granted_object c)) is ∙ itself (granted_object c))
           ∙ sym (ap (λ t. cond (not t) (Some c) (find key_cmp object rows)) (ap (λ k. is_superseded (find key_cmp k rows) c) is ∙ e))
 
 latest_is : (object : Key) (rows : Rows) (cs : List Granted) → find key_cmp object (latest_after rows cs) ≡ latest_for object (find key_cmp object rows) cs
@@ -173,8 +173,8 @@ latest_is object rows (c ∷ cs) = latest_is object (kept rows c) cs ∙ ap (λ 
 
 -- it is one of the copies, or the one that was known before; and no copy of the object is later
 record IsLatestOf (object : Key) (known : Option Granted) (cs : List Granted) (c : Granted) : Type 0 where
-  pub from : (known ≡ Some c) ⊎ (Has cs c × (object_of c ≡ object))
-  pub none_later : (other : Granted) → Has cs other → object_of other ≡ object → is_later other c ≡ false
+  pub from : (known ≡ Some c) ⊎ (Has cs c × (granted_object c ≡ object))
+  pub none_later : (other : Granted) → Has cs other → granted_object other ≡ object → is_later other c ≡ false
   pub known_not_later : (other : Granted) → known ≡ Some other → is_later other c ≡ false
 
 stands_alone : (object : Key) (known : Option Granted) (c : Granted) → known ≡ Some c → IsLatestOf object known [] c
@@ -191,11 +191,11 @@ superseded_of : (known : Option Granted) (c other : Granted) → known ≡ Some 
 superseded_of known c other e = ap (λ o. is_superseded o c) e
 
 -- the first copy goes in, or it does not
-goes : (object : Key) (known : Option Granted) (c : Granted) (cs : List Granted) (best : Granted) → eq_by_cmp key_cmp object (object_of c) ≡ true → is_superseded known c ≡ false
+goes : (object : Key) (known : Option Granted) (c : Granted) (cs : List Granted) (best : Granted) → eq_by_cmp key_cmp object (granted_object c) ≡ true → is_superseded known c ≡ false
     → IsLatestOf object (Some c) cs best → IsLatestOf object known (c ∷ cs) best
 goes object known c cs best same free is = record {
   from = elim is.from [
-    | inl e ↦ inr (inl (same_Some c best e), subst (λ (x : Granted). object_of x ≡ object) (same_Some c best e) (sym (same_object object (object_of c) same)))
+    | inl e ↦ inr (inl (same_Some c best e), subst (λ (x : Granted). granted_object x ≡ object) (same_Some c best e) (sym (same_object object (granted_object c) same)))
     | inr h ↦ inr (inr h.0, h.1)
   ];
   none_later = λ other h o. elim h [
@@ -206,11 +206,11 @@ goes object known c cs best same free is = record {
 }
 
 passes : (object : Key) (known : Option Granted) (c : Granted) (cs : List Granted) (best : Granted) → IsLatestOf object known cs best
-    → (object_of c ≡ object → is_superseded known c ≡ true) → IsLatestOf object known (c ∷ cs) best
+    → (granted_object c ≡ object → is_superseded known c ≡ true) → IsLatestOf object known (c ∷ cs) best
 passes object known c cs best is superseded = record {
   from = elim is.from [ inl e ↦ inl e | inr h ↦ inr (inr h.0, h.1) ];
   none_later = λ other h o. elim h [
-    | inl e ↦ subst (λ (x : Granted). is_later x best ≡ false) e (older (superseded (ap object_of e ∙ o)))
+    | inl e ↦ subst (λ (x : Granted). is_later x best ≡ false) e (older (superseded (ap granted_object e ∙ o)))
     | inr t ↦ is.none_later other t o
   ];
   known_not_later = is.known_not_later;
@@ -224,28 +224,28 @@ passes object known c cs best is superseded = record {
 
 latest_best : (object : Key) (known : Option Granted) (cs : List Granted) (best : Granted) → latest_for object known cs ≡ Some best → IsLatestOf object known cs best
 latest_best object known [] best h = stands_alone object known best h
-latest_best object known (c ∷ cs) best h = elim (eq_by_cmp key_cmp object (object_of c)) as (λ b. eq_by_cmp key_cmp object (object_of c) ≡ b
+latest_best object known (c ∷ cs) best h = elim (eq_by_cmp key_cmp object (granted_object c)) as (λ b. eq_by_cmp key_cmp object (granted_object c) ≡ b
     → latest_for object (cond (b && not (is_superseded known c)) (Some c) known) cs ≡ Some best → IsLatestOf object known (c ∷ cs) best) [
       | true ↦ λ same g. elim (is_superseded known c) as (λ b. is_superseded known c ≡ b → latest_for object (cond (not b) (Some c) known) cs ≡ Some best → IsLatestOf object known (c ∷ cs) best) [
         | true ↦ λ e f. passes object known c cs best (latest_best object known cs best f) (λ o. e)
         | false ↦ λ e f. goes object known c cs best same e (latest_best object (Some c) cs best f)
       ] refl g
-      | false ↦ λ other g. passes object known c cs best (latest_best object known cs best g) (λ o. let t : true ≡ false = sym (object_eq (object_of c) object o) ∙ other in cc)
+      | false ↦ λ other g. passes object known c cs best (latest_best object known cs best g) (λ o. let t : true ≡ false = sym (object_eq (granted_object c) object o) ∙ other in cc)
     ] refl h
 
 -- where none stands, none was known and no copy is of the object
-latest_none : (object : Key) (known : Option Granted) (cs : List Granted) → latest_for object known cs ≡ None → (known ≡ None) × ((c : Granted) → Has cs c → object_of c ≡ object → ⊥)
+latest_none : (object : Key) (known : Option Granted) (cs : List Granted) → latest_for object known cs ≡ None → (known ≡ None) × ((c : Granted) → Has cs c → granted_object c ≡ object → ⊥)
 latest_none object known [] h = (h, λ c i e. i)
-latest_none object known (c ∷ cs) h = elim (eq_by_cmp key_cmp object (object_of c)) as (λ b. eq_by_cmp key_cmp object (object_of c) ≡ b
-    → latest_for object (cond (b && not (is_superseded known c)) (Some c) known) cs ≡ None → (known ≡ None) × ((x : Granted) → Has (c ∷ cs) x → object_of x ≡ object → ⊥)) [
-      | true ↦ λ same g. elim (is_superseded known c) as (λ b. is_superseded known c ≡ b → latest_for object (cond (not b) (Some c) known) cs ≡ None → (known ≡ None) × ((x : Granted) → Has (c ∷ cs) x → object_of x ≡ object → ⊥)) [
+latest_none object known (c ∷ cs) h = elim (eq_by_cmp key_cmp object (granted_object c)) as (λ b. eq_by_cmp key_cmp object (granted_object c) ≡ b
+    → latest_for object (cond (b && not (is_superseded known c)) (Some c) known) cs ≡ None → (known ≡ None) × ((x : Granted) → Has (c ∷ cs) x → granted_object x ≡ object → ⊥)) [
+      | true ↦ λ same g. elim (is_superseded known c) as (λ b. is_superseded known c ≡ b → latest_for object (cond (not b) (Some c) known) cs ≡ None → (known ≡ None) × ((x : Granted) → Has (c ∷ cs) x → granted_object x ≡ object → ⊥)) [
         | true ↦ λ e f. let known_none = (latest_none object known cs f).0 in let t : true ≡ false = sym e ∙ ap (λ o. is_superseded o c) known_none in cc
         | false ↦ λ e f. let some : Some c ≡ None = (latest_none object (Some c) cs f).0 in cc
       ] refl g
       | false ↦ λ other g. let r = latest_none object known cs g in (
         r.0,
         λ x i o. elim i [
-          | inl e ↦ let t : true ≡ false = sym (object_eq (object_of c) object (ap object_of e ∙ o)) ∙ other in cc
+          | inl e ↦ let t : true ≡ false = sym (object_eq (granted_object c) object (ap granted_object e ∙ o)) ∙ other in cc
           | inr j ↦ r.1 x j o
         ],
       )
@@ -274,9 +274,9 @@ from_test true h = refl
 from_test false h = absurd h
 
 sorted_kept : (rows : Rows) (c : Granted) → T (is_sorted key_cmp rows) → T (is_sorted key_cmp (kept rows c))
-sorted_kept rows c h = elim (is_superseded (find key_cmp (object_of c) rows) c) as (λ b. T (is_sorted key_cmp (cond b rows (put key_cmp (object_of c) c rows)))) [
+sorted_kept rows c h = elim (is_superseded (find key_cmp (granted_object c) rows) c) as (λ b. T (is_sorted key_cmp (cond b rows (put key_cmp (granted_object c) c rows)))) [
   | true ↦ h
-  | false ↦ is_sorted-put key_cmp keys_total (object_of c) c rows h
+  | false ↦ is_sorted-put key_cmp keys_total (granted_object c) c rows h
 ]
 
 sorted_latest : (rows : Rows) (cs : List Granted) → T (is_sorted key_cmp rows) → T (is_sorted key_cmp (latest_after rows cs))
@@ -340,7 +340,7 @@ module _ (copies : List Granted) where
   rows_sorted : T (is_sorted key_cmp rows)
   rows_sorted = sorted_latest [] copies tt
 
-  entry_latest : (r : Key × Granted) → Has rows r → IsLatest copies r.1 × (object_of r.1 ≡ r.0)
+  entry_latest : (r : Key × Granted) → Has rows r → IsLatest copies r.1 × (granted_object r.1 ≡ r.0)
   entry_latest r h =
       let best = latest_best r.0 None copies r.1 (sym (latest_is r.0 [] copies) ∙ find_there rows r rows_sorted h) in
       elim best.from [
@@ -354,18 +354,18 @@ module _ (copies : List Granted) where
         )
       ]
 
-  row_latest : (row : Shown) → Contains (rows_of copies) row → (copy : Granted) × IsLatest copies copy × (row ≡ shown_of (object_of copy, copy))
+  row_latest : (row : Shown) → Contains (rows_of copies) row → (copy : Granted) × IsLatest copies copy × (row ≡ shown_of (granted_object copy, copy))
   row_latest row h =
       let r = from_map shown_of rows row (contains_has (rows_of copies) row h) in
       let e = entry_latest r.0 r.1 in
       (r.0.1, e.0, sym r.2 ∙ ap (λ k. shown_of (k, r.0.1)) (sym e.1))
 
-  row_there : (copy : Granted) → Contains copies copy → (row : Shown) × Contains (rows_of copies) row × (row_object row ≡ object_of copy)
-  row_there copy h = by_found (find key_cmp (object_of copy) rows) refl where
-    by_found : (o : Option Granted) → find key_cmp (object_of copy) rows ≡ o → (row : Shown) × Contains (rows_of copies) row × (row_object row ≡ object_of copy)
+  row_there : (copy : Granted) → Contains copies copy → (row : Shown) × Contains (rows_of copies) row × (row_object row ≡ granted_object copy)
+  row_there copy h = by_found (find key_cmp (granted_object copy) rows) refl where
+    by_found : (o : Option Granted) → find key_cmp (granted_object copy) rows ≡ o → (row : Shown) × Contains (rows_of copies) row × (row_object row ≡ granted_object copy)
     by_found (Some c) e =
-        (shown_of (object_of copy, c), has_contains (rows_of copies) _ (has_map shown_of rows (object_of copy, c) (from_find rows (object_of copy) c e)), refl)
-    by_found None e = absurd ((latest_none (object_of copy) None copies (sym (latest_is (object_of copy) [] copies) ∙ e)).1 copy (contains_has copies copy h) refl)
+        (shown_of (granted_object copy, c), has_contains (rows_of copies) _ (has_map shown_of rows (granted_object copy, c) (from_find rows (granted_object copy) c e)), refl)
+    by_found None e = absurd ((latest_none (granted_object copy) None copies (sym (latest_is (granted_object copy) [] copies) ∙ e)).1 copy (contains_has copies copy h) refl)
 
   pub rows_are_latest : AreLatest copies (rows_of copies)
   rows_are_latest = record {
@@ -388,9 +388,9 @@ shown_entries (row ∷ rows) = ap (λ rest. row ∷ rest) (shown_entries rows)
 
 module _ (copies : List Granted) (ties : TiesAgree copies) where
   -- rows of latest copies of one object have the same data
-  same_content : (a b : Shown) (c d : Granted) → IsLatest copies c → IsLatest copies d → a ≡ shown_of (object_of c, c) → b ≡ shown_of (object_of d, d) → row_object a ≡ row_object b → a.content ≡ b.content
+  same_content : (a b : Shown) (c d : Granted) → IsLatest copies c → IsLatest copies d → a ≡ shown_of (granted_object c, c) → b ≡ shown_of (granted_object d, d) → row_object a ≡ row_object b → a.content ≡ b.content
   same_content a b c d p q x y o =
-      let objects : object_of c ≡ object_of d = sym (ap row_object x) ∙ o ∙ ap row_object y in
+      let objects : granted_object c ≡ granted_object d = sym (ap row_object x) ∙ o ∙ ap row_object y in
       ap (λ (z : Shown). z.content) x
       ∙ ties c d p.among q.among objects (q.latest c p.among objects) (p.latest d q.among (sym objects))
       ∙ sym (ap (λ (z : Shown). z.content) y)

@@ -38,11 +38,11 @@ copy_with asker planned entry id = record {
 }
 
 -- no copy where the object has no id
-abbrev pub copy_of : Asker → Planned → Key × Version → Option Granted
-copy_of asker planned entry = option_map (copy_with asker planned entry) (object_id (asked_of asker (row_of entry)) planned.query)
+abbrev pub granted_copy : Asker → Planned → Key × Version → Option Granted
+granted_copy asker planned entry = option_map (copy_with asker planned entry) (object_id (asked_of asker (row_of entry)) planned.query)
 
 abbrev pub grant_of : Asker → List (List ℕ) → List (List Value) → Planned → Key × Version → Option Granted
-grant_of asker names vectors planned entry = if is_granted asker names vectors planned.query (row_of entry) then copy_of asker planned entry else None
+grant_of asker names vectors planned entry = if is_granted asker names vectors planned.query (row_of entry) then granted_copy asker planned entry else None
 
 -- the copies of a data query, in the order of the source
 abbrev pub granted_by_query : Asker → List (List ℕ) → List (List Value) → Source → Planned → List Granted

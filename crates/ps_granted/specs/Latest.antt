@@ -10,8 +10,8 @@ use Rattle.ps_granted.specs.declared.copies.Granted.{Granted}
 use Rattle.ps_granted.specs.Grants.{granted}
 
 -- the object that a copy is of
-abbrev pub object_of : Granted → Key
-object_of copy = (copy.kind, copy.id)
+abbrev pub granted_object : Granted → Key
+granted_object copy = (copy.kind, copy.id)
 
 -- by the moment, which is the position and then the place in the transaction, and then by the query's number
 abbrev pub is_later : Granted → Granted → Bool
@@ -30,7 +30,7 @@ is_superseded (Some other) copy = is_later other copy
 
 -- a copy takes the place of the one that is there, unless that one is later
 abbrev pub kept : Rows → Granted → Rows
-kept rows copy = if is_superseded (find key_cmp (object_of copy) rows) copy then rows else put key_cmp (object_of copy) copy rows
+kept rows copy = if is_superseded (find key_cmp (granted_object copy) rows) copy then rows else put key_cmp (granted_object copy) copy rows
 
 -- the latest copies of the objects, after more copies
 abbrev pub latest_after : Rows → List Granted → Rows
@@ -47,7 +47,7 @@ rows_of copies = map shown_of (latest_after [] copies)
 -- it is one of the copies, and none of the same object is later
 pub record IsLatest (copies : List Granted) (copy : Granted) : Type 0 where
   pub among : Contains copies copy
-  pub latest : (other : Granted) → Contains copies other → object_of other ≡ object_of copy → is_later other copy ≡ false
+  pub latest : (other : Granted) → Contains copies other → granted_object other ≡ granted_object copy → is_later other copy ≡ false
 
 -- the object that a row is of
 abbrev pub row_object : Shown → Key
@@ -61,12 +61,12 @@ by_object rows = map (λ row. (row_object row, row.content)) rows
 -- object of each copy has one
 pub record AreLatest (copies : List Granted) (rows : List Shown) : Type 0 where
   pub in_order : IsTrue (is_sorted key_cmp (by_object rows))
-  pub latest : (row : Shown) → Contains rows row → (copy : Granted) × IsLatest copies copy × (row ≡ shown_of (object_of copy, copy))
-  pub all : (copy : Granted) → Contains copies copy → (row : Shown) × Contains rows row × (row_object row ≡ object_of copy)
+  pub latest : (row : Shown) → Contains rows row → (copy : Granted) × IsLatest copies copy × (row ≡ shown_of (granted_object copy, copy))
+  pub all : (copy : Granted) → Contains copies copy → (row : Shown) × Contains rows row × (row_object row ≡ granted_object copy)
 
 -- copies of one object, neither of which is later, have the same data
 abbrev pub TiesAgree : List Granted → Type 0
-TiesAgree copies = (a b : Granted) → Contains copies a → Contains copies b → object_of a ≡ object_of b → is_later a b ≡ false → is_later b a ≡ false
+TiesAgree copies = (a b : Granted) → Contains copies a → Contains copies b → granted_object a ≡ granted_object b → is_later a b ≡ false → is_later b a ≡ false
     → a.content ≡ b.content
 
 -- the rows that are due to an asker at a position of the source

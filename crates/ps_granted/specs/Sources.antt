@@ -5,11 +5,11 @@ use Rattle.ps_queries.specs.Vectors.{SourceRow}
 use Rattle.ps_granted.specs.declared.live_rows.LiveRow.{LiveRow}
 
 -- a live row as an entry of the source: its table and id, and how its last change left it
-abbrev pub entry_of : LiveRow → Key × Version
-entry_of live = ((live.table, live.id), record { columns = live.row; position = live.position.0; index = live.index })
+abbrev pub source_entry : LiveRow → Key × Version
+source_entry live = ((live.table, live.id), record { columns = live.row; position = live.position.0; index = live.index })
 
-abbrev pub entries_of : List LiveRow → Source
-entries_of rows = map entry_of rows
+abbrev pub source_entries : List LiveRow → Source
+source_entries rows = map source_entry rows
 
 -- an entry of the source as queries read it
 abbrev pub row_of : Key × Version → SourceRow

@@ -2,9 +2,8 @@
 #![tactic(auto)]
 
 mod copies;
-mod laws;
+pub mod laws;
 mod live_rows;
 
 pub use copies::Granted;
-pub use laws::latest_rows_are_unique;
 pub use live_rows::LiveRow;

@@ -5,18 +5,18 @@ use Rattle.std.specs.Prelude.{nat_lt, ◌&&◌, if◌then◌else◌}
 use Rattle.std.specs.Char.{is_ascii_digit, digit_value}
 use Rattle.std.specs.Str.{all_ascii_digits}
 use Rattle.std.specs.Str.Parse.{digits_value_after}
-use Rattle.ps_http.specs.Fields.{number_of}
+use Rattle.ps_http.specs.Fields.{digits_number}
 use Rattle.ps_http.specs.Numbers.{number_after}
 
 -- no digits write no number
-pub number_of-empty : (digits : List ℕ) → length digits ≡ 0 → number_of digits ≡ None
-unfolding number_of
+pub number_of-empty : (digits : List ℕ) → length digits ≡ 0 → digits_number digits ≡ None
+unfolding digits_number
 number_of-empty [] none = refl
 number_of-empty (digit ∷ digits) none = absurd (omega (arith, none))
 
 -- some digits write what they write behind 0
-pub number_of-after : (digits : List ℕ) → 0 < length digits → number_of digits ≡ number_after 0 digits
-unfolding number_of
+pub number_of-after : (digits : List ℕ) → 0 < length digits → digits_number digits ≡ number_after 0 digits
+unfolding digits_number
 number_of-after digits some =
     let first : nat_lt 0 (length digits) ≡ true = grind (arith, nat_tests) in
     rw first refl

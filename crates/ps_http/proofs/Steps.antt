@@ -5,8 +5,8 @@ use Rattle.std.proofs.lemmas.Bool.{true≢false}
 use Rattle.std.proofs.lemmas.List.Elements.{All-nil, All-cons, All-append}
 use Rattle.httparse.specs.Grammar.{RequestHead, ReadsRequest, HasNoRequest}
 use Rattle.ps_io.specs.Sources.{Input, Gives, GivesAll}
-use Rattle.ps_http.specs.Heads.{Reads, IsUnfinished, head_limit}
-use Rattle.ps_http.specs.Takings.{is_newline, ends_empty, IsJudged, IsRefused}
+use Rattle.ps_http.specs.Heads.{ReadsHead, IsUnfinished, head_limit}
+use Rattle.ps_http.specs.Takings.{is_newline, ends_empty, RequestHeadIsJudged, HeadIsRefused}
 use Rattle.ps_http.specs.declared.heads.Head.{Head}
 use Rattle.ps_http.specs.declared.heads.HeadFault.{HeadFault}
 use Rattle.ps_http.specs.declared.heads.HeadFault.TheVariants.{BadHead, HeadTooLong, CutShort, ReadFault, Memory}
@@ -15,11 +15,11 @@ use Rattle.ps_http.proofs.Ends.{HasNoRequest-blank, HasNoRequest-more, rest_is_n
 
 -- the input ended
 pub Reads-end : (old mid new : Option Input) (before now : ℕ) (bytes : List ℕ) (fault : HeadFault) → length bytes ≤ head_limit
-    → Gives old mid bytes → GivesAll mid new [] → IsRefused bytes CutShort fault → Reads old new before now (Err fault)
+    → Gives old mid bytes → GivesAll mid new [] → HeadIsRefused bytes CutShort fault → ReadsHead old new before now (Err fault)
 Reads-end old mid new before now bytes fault few gives all (inl bad) =
-    subst (λ f. Reads old new before now (Err f)) (sym bad.0) (bytes, inr (GivesAll-append old mid new bytes gives all), few, bad.1)
+    subst (λ f. ReadsHead old new before now (Err f)) (sym bad.0) (bytes, inr (GivesAll-append old mid new bytes gives all), few, bad.1)
 Reads-end old mid new before now bytes fault few gives all (inr open') =
-    subst (λ f. Reads old new before now (Err f)) (sym open'.0) (bytes, GivesAll-append old mid new bytes gives all, few, open'.1)
+    subst (λ f. ReadsHead old new before now (Err f)) (sym open'.0) (bytes, GivesAll-append old mid new bytes gives all, few, open'.1)
 
 whole : (bytes : List ℕ) (byte : ℕ) (h : RequestHead) (rest : List ℕ) → HasNoRequest bytes → ReadsRequest (bytes ++ byte ∷ []) h rest
     → ReadsRequest (bytes ++ byte ∷ []) h []
@@ -27,7 +27,7 @@ whole bytes byte h rest none reads = subst (λ r. ReadsRequest (bytes ++ byte �
 
 -- the bytes that may be a whole head are refused
 pub Reads-judged : (old new : Option Input) (before now : ℕ) (bytes : List ℕ) (byte : ℕ) (fault : HeadFault) → length (bytes ++ byte ∷ []) ≤ head_limit
-    → Gives old new (bytes ++ byte ∷ []) → HasNoRequest bytes → IsJudged (bytes ++ byte ∷ []) (Err fault) → Reads old new before now (Err fault)
+    → Gives old new (bytes ++ byte ∷ []) → HasNoRequest bytes → RequestHeadIsJudged (bytes ++ byte ∷ []) (Err fault) → ReadsHead old new before now (Err fault)
 Reads-judged old new before now bytes byte BadHead few gives none (inl never) = (bytes ++ byte ∷ [], inl gives, few, inl never)
 Reads-judged old new before now bytes byte BadHead few gives none (inr (inl many)) = (bytes ++ byte ∷ [], inl gives, few, inr (inl many))
 Reads-judged old new before now bytes byte BadHead few gives none (inr (inr bad)) =
@@ -39,7 +39,7 @@ Reads-judged old new before now bytes byte Memory few gives none judged = (bytes
 
 -- the bytes are a head
 pub Reads-head : (old new : Option Input) (before now : ℕ) (bytes : List ℕ) (byte : ℕ) (head : Head) → length (bytes ++ byte ∷ []) ≤ head_limit
-    → Gives old new (bytes ++ byte ∷ []) → HasNoRequest bytes → IsJudged (bytes ++ byte ∷ []) (Ok (Some head)) → Reads old new before now (Ok head)
+    → Gives old new (bytes ++ byte ∷ []) → HasNoRequest bytes → RequestHeadIsJudged (bytes ++ byte ∷ []) (Ok (Some head)) → ReadsHead old new before now (Ok head)
 Reads-head old new before now bytes byte head few gives none judged =
     (bytes ++ byte ∷ [], gives, few, (judged.0, whole bytes byte judged.0 judged.1 none judged.2, judged.3.0, judged.3.1))
 
@@ -78,7 +78,7 @@ few-so-far bytes count long less = omega arith
 
 -- there is no memory for a byte
 pub Reads-memory : (old mid new : Option Input) (before now : ℕ) (bytes : List ℕ) (byte count : ℕ) → length bytes ≡ count → count < head_limit
-    → Gives old mid bytes → Gives mid new (byte ∷ []) → Reads old new before now (Err Memory)
+    → Gives old mid bytes → Gives mid new (byte ∷ []) → ReadsHead old new before now (Err Memory)
 Reads-memory old mid new before now bytes byte count long less gives next =
     (bytes ++ byte ∷ [], Gives-append old mid new bytes (byte ∷ []) gives next, few-more bytes byte count long less)
 
@@ -111,15 +111,15 @@ none-judged pushed seen same open' = subst (λ b. HasNoRequest b) same open'.non
 -- the bytes with the byte that was pushed are refused
 pub Reads-refused : (old mid new : Option Input) (before now : ℕ) (bytes pushed seen : List ℕ) (byte count : ℕ) (fault : HeadFault)
     → length bytes ≡ count → count < head_limit → Gives old mid bytes → Gives mid new (byte ∷ []) → HasNoRequest bytes
-    → pushed ≡ bytes ++ byte ∷ [] → seen ≡ pushed → IsJudged seen (Err fault) → Reads old new before now (Err fault)
+    → pushed ≡ bytes ++ byte ∷ [] → seen ≡ pushed → RequestHeadIsJudged seen (Err fault) → ReadsHead old new before now (Err fault)
 Reads-refused old mid new before now bytes pushed seen byte count fault long less gives next none is same judged =
     Reads-judged old new before now bytes byte fault (few-more bytes byte count long less)
-    (Gives-append old mid new bytes (byte ∷ []) gives next) none (subst (λ b. IsJudged b (Err fault)) (same ∙ is) judged)
+    (Gives-append old mid new bytes (byte ∷ []) gives next) none (subst (λ b. RequestHeadIsJudged b (Err fault)) (same ∙ is) judged)
 
 -- the bytes with the byte that was pushed are a head
 pub Reads-pushed : (old mid new : Option Input) (before now : ℕ) (bytes pushed seen : List ℕ) (byte count : ℕ) (head : Head)
     → length bytes ≡ count → count < head_limit → Gives old mid bytes → Gives mid new (byte ∷ []) → HasNoRequest bytes
-    → pushed ≡ bytes ++ byte ∷ [] → seen ≡ pushed → IsJudged seen (Ok (Some head)) → Reads old new before now (Ok head)
+    → pushed ≡ bytes ++ byte ∷ [] → seen ≡ pushed → RequestHeadIsJudged seen (Ok (Some head)) → ReadsHead old new before now (Ok head)
 Reads-pushed old mid new before now bytes pushed seen byte count head long less gives next none is same judged =
     Reads-head old new before now bytes byte head (few-more bytes byte count long less)
-    (Gives-append old mid new bytes (byte ∷ []) gives next) none (subst (λ b. IsJudged b (Ok (Some head))) (same ∙ is) judged)
+    (Gives-append old mid new bytes (byte ∷ []) gives next) none (subst (λ b. RequestHeadIsJudged b (Ok (Some head))) (same ∙ is) judged)

@@ -19,16 +19,16 @@ abbrev pub has_field : List ℕ → List (List ℕ × List ℕ) → Bool
 has_field wanted fields = list_any (λ field. is_named wanted field.0) fields
 
 -- the greatest number of 64 bits
-abbrev pub greatest : ℕ
-greatest = 2 ^ 64 - 1
+abbrev pub greatest_length : ℕ
+greatest_length = 2 ^ 64 - 1
 
 -- the number that one run of digits writes, where one above the greatest counts as the greatest
-unfoldable pub number_of : List ℕ → Option ℕ
-number_of digits = if nat_lt 0 (length digits) && all_ascii_digits digits then Some (min (digits_value 10 digits) greatest) else None
+unfoldable pub digits_number : List ℕ → Option ℕ
+digits_number digits = if nat_lt 0 (length digits) && all_ascii_digits digits then Some (min (digits_value 10 digits) greatest_length) else None
 
 -- the value writes that number
-abbrev pub writes : ℕ → List ℕ → Bool
-writes number value = is_number number (number_of value)
+abbrev pub writes_number : ℕ → List ℕ → Bool
+writes_number number value = is_number number (digits_number value)
   where
     is_number : ℕ → Option ℕ → Bool
     is_number number None = false
@@ -37,7 +37,7 @@ writes number value = is_number number (number_of value)
 -- each field of that name writes that number
 abbrev pub all_write : List ℕ → ℕ → List (List ℕ × List ℕ) → Bool
 all_write wanted number fields =
-    list_all (λ field. if is_named wanted field.0 then writes number field.1 else true) fields
+    list_all (λ field. if is_named wanted field.0 then writes_number number field.1 else true) fields
 
 -- what the first length is, where there is one: a number that all the others are too, and else no length can be told
 abbrev pub agreed_length : Option ℕ → List (List ℕ × List ℕ) → Option (Option ℕ)
@@ -47,7 +47,7 @@ agreed_length (Some number) fields = if all_write (codes "content-length") numbe
 -- the length, if the first field that states one has this value
 abbrev pub length_from : Option (List ℕ) → List (List ℕ × List ℕ) → Option (Option ℕ)
 length_from None fields = Some None
-length_from (Some value) fields = agreed_length (number_of value) fields
+length_from (Some value) fields = agreed_length (digits_number value) fields
 
 -- the length that the fields state, if any; `None` where what they state is no length
 abbrev pub stated_length : List (List ℕ × List ℕ) → Option (Option ℕ)

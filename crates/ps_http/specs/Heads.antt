@@ -76,20 +76,20 @@ pub record IsUnfinished (bytes : List ℕ) : Type 0 where
   pub open' : MayBecomeRequest bytes
 
 -- the source handed out these bytes, and perhaps answered the end of input
-abbrev pub Took : Option Input → Option Input → List ℕ → Type 0
-Took old new bytes = Gives old new bytes ⊎ GivesAll old new bytes
+abbrev pub TookBytes : Option Input → Option Input → List ℕ → Type 0
+TookBytes old new bytes = Gives old new bytes ⊎ GivesAll old new bytes
 
 -- what each answer says of the bytes that the source has handed out
-abbrev pub Reads : Option Input → Option Input → ℕ → ℕ → Result Head HeadFault → Type 0
-Reads old new before now (Ok head) =
+abbrev pub ReadsHead : Option Input → Option Input → ℕ → ℕ → Result Head HeadFault → Type 0
+ReadsHead old new before now (Ok head) =
     (bytes : List ℕ) × Gives old new bytes × (length bytes ≤ head_limit) × IsHead bytes head
-Reads old new before now (Err BadHead) =
-    (bytes : List ℕ) × Took old new bytes × (length bytes ≤ head_limit) × IsBadHead bytes
-Reads old new before now (Err HeadTooLong) =
+ReadsHead old new before now (Err BadHead) =
+    (bytes : List ℕ) × TookBytes old new bytes × (length bytes ≤ head_limit) × IsBadHead bytes
+ReadsHead old new before now (Err HeadTooLong) =
     (bytes : List ℕ) × Gives old new bytes × (length bytes ≡ head_limit) × IsUnfinished bytes
-Reads old new before now (Err CutShort) =
+ReadsHead old new before now (Err CutShort) =
     (bytes : List ℕ) × GivesAll old new bytes × (length bytes ≤ head_limit) × IsUnfinished bytes
-Reads old new before now (Err ReadFault) =
+ReadsHead old new before now (Err ReadFault) =
     (bytes : List ℕ) × Gives old new bytes × (length bytes ≤ head_limit) × IsUnfinished bytes × Rose before now
-Reads old new before now (Err Memory) =
+ReadsHead old new before now (Err Memory) =
     (bytes : List ℕ) × Gives old new bytes × (length bytes ≤ head_limit)

@@ -17,24 +17,24 @@ abbrev pub is_newline : ℕ → Bool
 is_newline byte = byte == 13 || byte == 10
 
 -- what the next byte of a source is
-abbrev pub IsNext : Option Input → Option Input → ℕ → ℕ → Next → Type 0
-IsNext old new before now (Byte byte) = Gives old new (byte ∷ [])
-IsNext old new before now End = GivesAll old new []
-IsNext old new before now Fault = (new ≡ old) × Rose before now
+abbrev pub IsNextByte : Option Input → Option Input → ℕ → ℕ → Next → Type 0
+IsNextByte old new before now (Byte byte) = Gives old new (byte ∷ [])
+IsNextByte old new before now End = GivesAll old new []
+IsNextByte old new before now Fault = (new ≡ old) × Rose before now
 
 -- the bytes that follow in a head are known only later
 abbrev pub BeginsHead : List ℕ → (RequestHead → Type 0) → Type 0
 BeginsHead bytes P = (request : RequestHead) × (rest : List ℕ) × ReadsRequest bytes request rest × P request
 
 -- what the bytes that may be a whole head are
-abbrev pub IsJudged : List ℕ → Result (Option Head) HeadFault → Type 0
-IsJudged bytes (Ok None) = IsUnfinished bytes
-IsJudged bytes (Ok (Some head)) = BeginsHead bytes (λ request. (length request.fields ≤ field_limit) × IsHeadOf request head)
-IsJudged bytes (Err BadHead) = NeverHasRequest bytes ⊎ (RequestExceeds field_limit bytes ⊎ BeginsHead bytes HasBadPart)
-IsJudged bytes (Err HeadTooLong) = ⊥
-IsJudged bytes (Err CutShort) = ⊥
-IsJudged bytes (Err ReadFault) = ⊥
-IsJudged bytes (Err Memory) = Unit {0}
+abbrev pub RequestHeadIsJudged : List ℕ → Result (Option Head) HeadFault → Type 0
+RequestHeadIsJudged bytes (Ok None) = IsUnfinished bytes
+RequestHeadIsJudged bytes (Ok (Some head)) = BeginsHead bytes (λ request. (length request.fields ≤ field_limit) × IsHeadOf request head)
+RequestHeadIsJudged bytes (Err BadHead) = NeverHasRequest bytes ⊎ (RequestExceeds field_limit bytes ⊎ BeginsHead bytes HasBadPart)
+RequestHeadIsJudged bytes (Err HeadTooLong) = ⊥
+RequestHeadIsJudged bytes (Err CutShort) = ⊥
+RequestHeadIsJudged bytes (Err ReadFault) = ⊥
+RequestHeadIsJudged bytes (Err Memory) = Unit {0}
 
 -- a head of these parts is read, or one of them is bad
 abbrev pub IsReadFrom : RequestHead → Result Head HeadFault → Type 0
@@ -50,5 +50,5 @@ abbrev pub ends_empty : List ℕ → Bool
 ends_empty bytes = ends_with nat_eq bytes (10 ∷ 10 ∷ []) || ends_with nat_eq bytes (10 ∷ 13 ∷ 10 ∷ [])
 
 -- the bytes begin no head, or may become one
-abbrev pub IsRefused : List ℕ → HeadFault → HeadFault → Type 0
-IsRefused bytes otherwise fault = ((fault ≡ BadHead) × IsBadHead bytes) ⊎ ((fault ≡ otherwise) × IsUnfinished bytes)
+abbrev pub HeadIsRefused : List ℕ → HeadFault → HeadFault → Type 0
+HeadIsRefused bytes otherwise fault = ((fault ≡ BadHead) × IsBadHead bytes) ⊎ ((fault ≡ otherwise) × IsUnfinished bytes)

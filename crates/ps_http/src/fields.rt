@@ -44,7 +44,7 @@ pub(crate) fn has_field(buffer: &[u8], headers: &[HeaderSpan], wanted: &[u8]) ->
 
 // The number of one run of digits, where one above the greatest counts as the greatest.
 fn number_of(digits: &[u8]) -> Option<u64>
-    ensures { result ≡ spec.number_of digits.now }
+    ensures { result ≡ spec.digits_number digits.now }
 {
     if digits.is_empty() {
         return None;
@@ -63,7 +63,7 @@ fn number_of(digits: &[u8]) -> Option<u64>
 
 // Whether a value writes that number.
 fn writes(number: u64, value: &[u8]) -> bool
-    ensures { result ≡ spec.writes number value.now }
+    ensures { result ≡ spec.writes_number number value.now }
 {
     match number_of(value) {
         Some(other) => other == number,

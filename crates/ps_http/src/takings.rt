@@ -1,7 +1,7 @@
 ghost use Rattle.std.specs.Prelude.{◌≡◌, ◌≤◌, ◌||◌, ◌&&◌, not, [], ◌∷◌, ◌++◌, OnOk};
 ghost use Rattle.httparse.specs.Grammar.{HasNoRequest};
-ghost use Rattle.ps_http.specs.Heads.{Reads};
-ghost use Rattle.ps_http.specs.Takings.{is_newline as is_line_byte, IsNext, IsJudged, IsRefused, ends_empty};
+ghost use Rattle.ps_http.specs.Heads.{ReadsHead};
+ghost use Rattle.ps_http.specs.Takings.{is_newline as is_line_byte, IsNextByte, RequestHeadIsJudged, HeadIsRefused, ends_empty};
 
 use crate::parts::read_parts;
 use crate::{FIELD_LIMIT, HEAD_LIMIT, Head, HeadFault};
@@ -21,7 +21,7 @@ pub(crate) enum Next {
 
 // The next byte of a source.
 fn next_byte<S: Source>(from: &mut S) -> Next
-    ensures next { IsNext (S.input from.old) (S.input from.new) (S.faults from.old) (S.faults from.new) result }
+    ensures next { IsNextByte (S.input from.old) (S.input from.new) (S.faults from.old) (S.faults from.new) result }
     ensures faults { S.faults from.old ≤ S.faults from.new }
     ensures number { S.number from.new ≡ S.number from.old }
 {
@@ -64,7 +64,7 @@ fn push_byte(taken: &mut Vec<u8>, byte: u8) -> Result<(), Memory>
 
 // What the bytes are that may be a whole head.
 fn judge(alloc: Global, bytes: &[u8]) -> Result<Option<Head>, HeadFault>
-    ensures { IsJudged bytes.now result }
+    ensures { RequestHeadIsJudged bytes.now result }
 {
     let mut headers = [EMPTY_HEADER_SPAN; FIELD_LIMIT];
     match parse_request(bytes, &mut headers) {
@@ -81,7 +81,7 @@ fn judge(alloc: Global, bytes: &[u8]) -> Result<Option<Head>, HeadFault>
 // Why no head was read: that the bytes begin none, or else the other fault.
 fn refusal(bytes: &[u8], otherwise: HeadFault) -> HeadFault
     requires { HasNoRequest bytes.now }
-    ensures { IsRefused bytes.now otherwise result }
+    ensures { HeadIsRefused bytes.now otherwise result }
 {
     let mut headers = [EMPTY_HEADER_SPAN; FIELD_LIMIT];
     match parse_request(bytes, &mut headers) {
@@ -97,7 +97,7 @@ fn refusal(bytes: &[u8], otherwise: HeadFault) -> HeadFault
 /// ended, `ReadFault` where the source failed, `HeadTooLong` where no head ended within 16,384 bytes, and `Memory`.
 /// Empty lines before the first line are skipped (RFC 9112, section 2.2).
 pub fn read_head<S: Source>(alloc: Global, from: &mut S) -> Result<Head, HeadFault>
-    ensures answer { Reads (S.input from.old) (S.input from.new) (S.faults from.old) (S.faults from.new) result }
+    ensures answer { ReadsHead (S.input from.old) (S.input from.new) (S.faults from.old) (S.faults from.new) result }
     ensures faults { S.faults from.old ≤ S.faults from.new }
     ensures number { S.number from.new ≡ S.number from.old }
 {

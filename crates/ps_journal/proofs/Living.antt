@@ -6,7 +6,7 @@ use Rattle.ps_journal.specs.declared.moments.Moment.{Moment}
 use Rattle.ps_journal.specs.declared.moments.Told.{Told}
 use Rattle.ps_journal.specs.declared.records.Record.{Record}
 use Rattle.ps_journal.specs.Moments.{MayLeave}
-use Rattle.ps_journal.specs.Layout.{Reads}
+use Rattle.ps_journal.specs.Layout.{ReadsAsRecords}
 use Rattle.ps_journal.specs.Runs.{Throughout}
 use Rattle.ps_journal.specs.declared.places.Place.{Place}
 use Rattle.ps_journal.specs.Journals.{KeepsAt, ReadsUpTo, Leaves}
@@ -20,20 +20,20 @@ use Rattle.ps_journal.specs.Lives.{IsAtMostOneOf, LeavesThen}
 -- before the record is appended
 pub before_it : (records others : List Record) (entry : Record) (moment : Moment) → Leaves records others moment → LeavesThen records others entry moment
 before_it records others entry moment leaves left may = elim (leaves left may) [
-  | inl same ↦ ([], [], tt, tt, subst (Reads left) (sym (append-nil (records ++ []) ∙ append-nil records)) same)
-  | inr other ↦ (other.0 ∷ [], [], other.1, tt, subst (Reads left) (sym (append-nil (records ++ other.0 ∷ []))) other.2)
+  | inl same ↦ ([], [], tt, tt, subst (ReadsAsRecords left) (sym (append-nil (records ++ []) ∙ append-nil records)) same)
+  | inr other ↦ (other.0 ∷ [], [], other.1, tt, subst (ReadsAsRecords left) (sym (append-nil (records ++ other.0 ∷ []))) other.2)
 ]
 
 -- while it is
 pub with_it : (records others opened extra : List Record) (entry : Record) (moment : Moment) → IsAtMostOneOf others extra → opened ≡ records ++ extra → Leaves opened (entry ∷ []) moment
     → LeavesThen records others entry moment
 with_it records others opened extra entry moment one is leaves left may = elim (leaves left may) [
-  | inl same ↦ (extra, [], one, tt, subst (Reads left) (is ∙ sym (append-nil (records ++ extra))) same)
-  | inr other ↦ (extra, other.0 ∷ [], one, other.1, subst (Reads left) (ap (λ (l : List Record). l ++ other.0 ∷ []) is) other.2)
+  | inl same ↦ (extra, [], one, tt, subst (ReadsAsRecords left) (is ∙ sym (append-nil (records ++ extra))) same)
+  | inr other ↦ (extra, other.0 ∷ [], one, other.1, subst (ReadsAsRecords left) (ap (λ (l : List Record). l ++ other.0 ∷ []) is) other.2)
 ]
 
 -- what was opened
-pub opened_is : (content : List ℕ) (records others opened : List Record) → Reads content opened → ReadsUpTo content records others
+pub opened_is : (content : List ℕ) (records others opened : List Record) → ReadsAsRecords content opened → ReadsUpTo content records others
     → (extra : List Record) × IsAtMostOneOf others extra × (opened ≡ records ++ extra)
 opened_is content records others opened reads (inl same) = ([], tt, reads_one_way content opened records reads same ∙ sym (append-nil records))
 opened_is content records others opened reads (inr other) = (other.0 ∷ [], other.1, reads_one_way content opened (records ++ other.0 ∷ []) reads other.2)

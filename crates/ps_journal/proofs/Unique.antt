@@ -8,7 +8,7 @@ use Rattle.ps_journal.specs.declared.faults.OpenFault.{OpenFault}
 use Rattle.ps_journal.specs.declared.faults.OpenFault.TheVariants.{NotJournal, Damaged, TooLong, Failed, Memory}
 use Rattle.ps_journal.specs.Moments.{MayLeave}
 use Rattle.ps_journal.specs.Records.{AreRecords}
-use Rattle.ps_journal.specs.Layout.{limit, header, framed, opened, front, Spells, HasNoRecord, IsDamagedAt, IsNew, Reads}
+use Rattle.ps_journal.specs.Layout.{limit, header, framed, opened, front, Spells, HasNoRecord, IsDamagedAt, IsNew, ReadsAsRecords}
 use Rattle.ps_journal.specs.Journals.{ReadsUpTo, Leaves}
 use Rattle.ps_journal.specs.Opening.{Opens, LeavesAsBefore}
 use Rattle.ps_journal.specs.Laws.{IsOfContent}
@@ -54,7 +54,7 @@ spells_unique content cs bs small p q =
     omega (arith, ap length p.is, ap length (append_assoc header (opened cs) (p.gate ∷ p.rest)), length-append header (opened cs ++ p.gate ∷ p.rest), length-header) in
     bodies_unique cs bs p.gate q.gate p.rest q.rest p.shut q.shut (omega (arith, small, long)) same
 
-pub reads_one_way : (content : List ℕ) (a b : List Record) → Reads content a → Reads content b → a ≡ b
+pub reads_one_way : (content : List ℕ) (a b : List Record) → ReadsAsRecords content a → ReadsAsRecords content b → a ≡ b
 reads_one_way content a b p q = ways p.1 q.1
   where
     Way : List Record → Type 0
@@ -99,13 +99,13 @@ begins_so content bodies rest is =
     ap (λ (l : List ℕ). take 8 l) (is ∙ append_assoc header (opened bodies) rest) ∙ take_at header (opened bodies ++ rest) 8 length-header
 
 -- what reads as records is a journal, and not damaged
-not_other : (content : List ℕ) (records : List Record) → Reads content records → take 8 content ≢ header → 9 < length content → ⊥
+not_other : (content : List ℕ) (records : List Record) → ReadsAsRecords content records → take 8 content ≢ header → 9 < length content → ⊥
 not_other content records read other long = elim read.1 [
   | inl new ↦ omega (arith, new.0, long)
   | inr old ↦ other (begins_so content old.1.0 (old.1.1.gate ∷ old.1.1.rest) old.1.1.is)
 ]
 
-sound : (content : List ℕ) (records : List Record) (at : ℕ) → Reads content records → 9 < length content → IsDamagedAt content at → ⊥
+sound : (content : List ℕ) (records : List Record) (at : ℕ) → ReadsAsRecords content records → 9 < length content → IsDamagedAt content at → ⊥
 sound content records at read more d = elim read.1 [
   | inl new ↦ omega (arith, new.0, more)
   | inr old ↦
@@ -185,8 +185,8 @@ reopened old records others moment possible leaves again left may = elim (again 
   | inr none ↦ inl (nothing (leaves old.content possible) none.0 none.1)
 ]
   where
-    nothing : ReadsUpTo old.content records others → Reads old.content [] → Reads left [] → Reads left records
-    nothing (inl same) empty here = subst (Reads left) (reads_one_way old.content [] records empty same) here
+    nothing : ReadsUpTo old.content records others → ReadsAsRecords old.content [] → ReadsAsRecords left [] → ReadsAsRecords left records
+    nothing (inl same) empty here = subst (ReadsAsRecords left) (reads_one_way old.content [] records empty same) here
     nothing (inr other) empty here =
         let false_ : [] ≡ records ++ other.0 ∷ [] = reads_one_way old.content [] (records ++ other.0 ∷ []) empty other.2 in
         let long : 0 ≡ length records + 1 = omega (arith, ap length false_, length-append records (other.0 ∷ [])) in

@@ -14,7 +14,7 @@ use Rattle.ps_changes.specs.LongLines.{transaction_in}
 use Rattle.ps_changes.specs.Writing.{transaction_json}
 use Rattle.ps_journal.specs.declared.records.Record.{Record}
 use Rattle.ps_journal.specs.declared.records.Record.TheVariants.{Upload, Number}
-use Rattle.ps_journal.specs.Records.{number_json, record_json, body_of, upload_of, upload_in, record_in, record_of}
+use Rattle.ps_journal.specs.Records.{number_json, record_json, body_of, upload_record, upload_in, record_in, record_of}
 
 -- ---- bytes
 
@@ -38,7 +38,7 @@ upload_is position changes d value is whole = rw (whole, is) refl
 pub upload_again : (position : Position) (changes : List Change) (d value : Json) → transaction_in value ≡ Ok (record { position = position; changes = changes }) → d ≡ object (member (codes "upload") value no_members)
     → record_in d ≡ Some (Upload position changes)
 unfolding upload_in
-upload_again position changes d value again whole = rw whole (ap upload_of again)
+upload_again position changes d value again whole = rw whole (ap upload_record again)
 
 pub upload_plain : (d value : Json) → has_float value ≡ false → d ≡ object (member (codes "upload") value no_members) → has_float d ≡ false
 upload_plain d value plain whole = rw (whole, plain) refl

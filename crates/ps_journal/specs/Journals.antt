@@ -8,20 +8,20 @@ use Rattle.ps_journal.specs.declared.faults.AppendFault.{AppendFault}
 use Rattle.ps_journal.specs.declared.faults.AppendFault.TheVariants.{KeepFull, KeepFailed, Memory}
 use Rattle.ps_journal.specs.Moments.{MayLeave}
 use Rattle.ps_journal.specs.Records.{body_of, AreRecords}
-use Rattle.ps_journal.specs.Layout.{limit, Reads}
-use Rattle.ps_journal.specs.Gates.{Stands, IsAmong}
+use Rattle.ps_journal.specs.Layout.{limit, ReadsAsRecords}
+use Rattle.ps_journal.specs.Gates.{GateStands, IsAmong}
 
 -- a journal is its disk and the place of its gate
 abbrev pub disk_of : {D : Type 0} → D × Place → D
 disk_of journal = journal.0
 
-abbrev pub place_of : {D : Type 0} → D × Place → Place
-place_of journal = journal.1
+abbrev pub journal_place : {D : Type 0} → D × Place → Place
+journal_place journal = journal.1
 
 -- A disk that tells this, and on which the gate stands so, keeps these records. Behind them a crash may leave one of the others, of which there is one at most:
 -- it failed or was taken back.
 abbrev pub KeepsAt : Option Told → Place → List Record → List Record → Type 0
-KeepsAt told place records others = (bodies : List (List ℕ)) × (more : List (List ℕ)) × Stands told place bodies more × AreRecords bodies records × AreRecords more others
+KeepsAt told place records others = (bodies : List (List ℕ)) × (more : List (List ℕ)) × GateStands told place bodies more × AreRecords bodies records × AreRecords more others
 
 -- the journal keeps them
 abbrev pub Keeps : {D : Type 0} → (D → Option Told) → D × Place → List Record → List Record → Type 0
@@ -34,7 +34,7 @@ AreAmong all (entry ∷ entries) = IsAmong all entry × AreAmong all entries
 
 -- the content reads as these records, or as these and one of the others behind them
 abbrev pub ReadsUpTo : List ℕ → List Record → List Record → Type 0
-ReadsUpTo content records others = Reads content records ⊎ ((entry : Record) × IsAmong others entry × Reads content (records ++ entry ∷ []))
+ReadsUpTo content records others = ReadsAsRecords content records ⊎ ((entry : Record) × IsAmong others entry × ReadsAsRecords content (records ++ entry ∷ []))
 
 -- a crash at this moment leaves such a content
 abbrev pub Leaves : List Record → List Record → Moment → Type 0

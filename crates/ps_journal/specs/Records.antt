@@ -8,14 +8,14 @@ use Rattle.ps_data.specs.Numbers.{greatest, decimal_of}
 use Rattle.ps_changes.specs.declared.faults.ChangeFault.{ChangeFault}
 use Rattle.ps_rows.specs.declared.changes.Transaction.{Transaction}
 use Rattle.ps_changes.specs.LongLines.{transaction_in}
-use Rattle.ps_changes.specs.Writing.{transaction_json, IsWritable}
+use Rattle.ps_changes.specs.Writing.{transaction_json, IsWritableTransaction}
 use Rattle.ps_journal.specs.declared.records.Record.{Record}
 use Rattle.ps_journal.specs.declared.records.Record.TheVariants.{Upload, Number}
 
 -- A record that a journal takes: no table is empty, an upload's position is one that a change line may have, and a number and its head are no greater
 -- than the greatest.
 abbrev pub IsRecord : Record → Type 0
-IsRecord (Upload position changes) = IsWritable (record { position = position; changes = changes })
+IsRecord (Upload position changes) = IsWritableTransaction (record { position = position; changes = changes })
 IsRecord (Number user client number head) = (number ≤ greatest) × (head.0 ≤ greatest)
 
 -- ---- written
@@ -49,26 +49,26 @@ text_in name d = option_and_then as_str (get name d)
 abbrev pub decimal_in : List ℕ → Json → Option ℕ
 decimal_in name d = option_and_then decimal_of (text_in name d)
 
-abbrev pub number_in : Json → Option Record
-number_in d = do
+abbrev pub number_record : Json → Option Record
+number_record d = do
   user ← text_in (codes "user") d
   client ← text_in (codes "client") d
   number ← decimal_in (codes "number") d
   head ← decimal_in (codes "head") d
   Some (Number user client number (record { 0 = head }))
 
-abbrev pub upload_of : Result Transaction ChangeFault → Option Record
-upload_of (Ok transaction) = Some (Upload transaction.position transaction.changes)
-upload_of (Err fault) = None
+abbrev pub upload_record : Result Transaction ChangeFault → Option Record
+upload_record (Ok transaction) = Some (Upload transaction.position transaction.changes)
+upload_record (Err fault) = None
 
 -- an upload is read as a change line is
 unfoldable pub upload_in : Json → Option Record
-upload_in d = upload_of (transaction_in d)
+upload_in d = upload_record (transaction_in d)
 
 -- a record is one of both, and never both at once
 abbrev pub one_of : Option Json → Option Json → Option Record
 one_of (Some upload) None = upload_in upload
-one_of None (Some made) = number_in made
+one_of None (Some made) = number_record made
 one_of (Some upload) (Some made) = None
 one_of None None = None
 

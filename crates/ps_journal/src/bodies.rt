@@ -4,13 +4,12 @@ ghost use Rattle.serde_json.specs.Data.{depth};
 ghost use Rattle.serde_json.specs.View.{view};
 ghost use Rattle.serde_json.specs.Written.{has_float};
 ghost use Rattle.ps_data.specs.Numbers.{greatest};
-ghost use Rattle.ps_changes.specs.Writing.{IsWritable};
+ghost use Rattle.ps_changes.specs.Writing.{IsWritableTransaction};
 ghost use Rattle.ps_journal.specs.declared.records.Record.TheVariants as records;
 ghost use Rattle.ps_journal.specs.Records.{number_json, record_json, record_in, body_of, record_of};
 
 use ps_changes::{Change, json_of_changes, put_decimal, put_text};
 use ps_data::{Items, Memory, Position, Text};
-use ps_values::decimals_read_back;
 use serde_json::{Map, Value as Json, put};
 use std::alloc::Global;
 
@@ -19,7 +18,7 @@ pub(crate) fn of_upload(
     position: Position,
     changes: &Items<Change>,
 ) -> Result<Vec<u8>, Memory>
-    requires { IsWritable (record { position = position; changes = changes.now }) }
+    requires { IsWritableTransaction (record { position = position; changes = changes.now }) }
     ensures value { IfOk result (λ body. body.items ≡ body_of (records.Upload position changes.now)) }
     ensures read_again { IfOk result (λ body. record_of body.items ≡ Some (records.Upload position changes.now)) }
 {
@@ -39,13 +38,13 @@ pub(crate) fn of_number(
     ensures value { IfOk result (λ body. body.items ≡ body_of (records.Number user.now client.now number head)) }
     ensures read_again { IfOk result (λ body. record_of body.items ≡ Some (records.Number user.now client.now number head)) }
 {
-    decimals_read_back();
+    ps_values::laws::decimals_read_back();
     let json = number_record(alloc, user, client, number, head)?;
     Ok(json.to_vec(alloc)?)
 }
 
 fn upload_json(alloc: Global, position: Position, changes: &Items<Change>) -> Result<Json, Memory>
-    requires { IsWritable (record { position = position; changes = changes.now }) }
+    requires { IsWritableTransaction (record { position = position; changes = changes.now }) }
     ensures value { IfOk result (λ json. view json ≡ record_json (records.Upload position changes.now)) }
     ensures read_again { IfOk result (λ json. record_in (view json) ≡ Some (records.Upload position changes.now)) }
     ensures plain { IfOk result (λ json. has_float (view json) ≡ false) }

@@ -5,10 +5,10 @@ ghost use Rattle.ps_io.specs.Counts.{Rose};
 ghost use Rattle.ps_journal.specs.declared.records.Record.{Record as Entry};
 ghost use Rattle.ps_journal.specs.Layout.{limit, framed};
 ghost use Rattle.ps_journal.specs.Records.{IsRecord, body_of};
-ghost use Rattle.ps_journal.specs.Gates.{Stands, LeavesBodies};
+ghost use Rattle.ps_journal.specs.Gates.{GateStands, LeavesBodies};
 ghost use Rattle.ps_journal.specs.Runs.{Throughout};
-ghost use Rattle.ps_journal.specs.Opening.{Opens, IsMade, Reopens};
-ghost use Rattle.ps_journal.specs.Journals.{disk_of, place_of, Keeps, AreAmong, Leaves, length_with, IsFullExactly};
+ghost use Rattle.ps_journal.specs.Opening.{Opens, JournalIsMade, Reopens};
+ghost use Rattle.ps_journal.specs.Journals.{disk_of, journal_place, Keeps, AreAmong, Leaves, length_with, IsFullExactly};
 
 use crate::blocks::block;
 use crate::opening::load;
@@ -53,7 +53,7 @@ impl<D: Disk> Journal<D> {
         ensures valid { IfOk result (λ opened. All IsRecord opened.1.items) }
         ensures reads { IfOk result (λ opened. IfSome (D.told disk) (λ known. Opens known.content (Ok opened.1.items))) }
         ensures refuses { IfErr result (λ refused. IfSome (D.told disk) (λ known. Opens known.content (Err refused.1))) }
-        ensures made { IfOk result (λ opened. IsMade (D.told disk) (D.told (disk_of opened.0))) }
+        ensures made { IfOk result (λ opened. JournalIsMade (D.told disk) (D.told (disk_of opened.0))) }
         ensures crash { IfOk result (λ opened. Reopens (D.told disk) (D.told (disk_of opened.0))) }
         ensures crash_refused { IfErr result (λ refused. Reopens (D.told disk) (D.told refused.0)) }
         ensures failed { IfErr result (λ refused. refused.1 ≡ OpenFault.Failed → Rose (D.faults disk) (D.faults refused.0)) }
@@ -76,11 +76,11 @@ impl<D: Disk> Journal<D> {
 
     // Shuts a gate that may be open on the disk.
     fn settle(&mut self) -> Result<(), Failed>
-        ensures ok { OnOk result ((bodies others : List (List ℕ)) → Stands (D.told self.old.0) self.old.1 bodies others → Stands (D.told self.new.0) self.new.1 bodies []) }
+        ensures ok { OnOk result ((bodies others : List (List ℕ)) → GateStands (D.told self.old.0) self.old.1 bodies others → GateStands (D.told self.new.0) self.new.1 bodies []) }
         ensures closed { OnOk result (self.new.1.standing ≡ Standing.Closed) }
-        ensures err { OnErr result ((bodies others : List (List ℕ)) → Stands (D.told self.old.0) self.old.1 bodies others → Stands (D.told self.new.0) self.new.1 bodies others) }
+        ensures err { OnErr result ((bodies others : List (List ℕ)) → GateStands (D.told self.old.0) self.old.1 bodies others → GateStands (D.told self.new.0) self.new.1 bodies others) }
         ensures end { self.new.1.end ≡ self.old.1.end }
-        ensures crash { (bodies others : List (List ℕ)) → Stands (D.told self.old.0) self.old.1 bodies others
+        ensures crash { (bodies others : List (List ℕ)) → GateStands (D.told self.old.0) self.old.1 bodies others
             → Throughout (LeavesBodies bodies others) (D.told self.old.0) (D.told self.new.0) }
         ensures failed { OnErr result (Rose (D.faults self.old.0) (D.faults self.new.0)) }
         ensures faults { D.faults self.old.0 ≤ D.faults self.new.0 }
@@ -105,12 +105,12 @@ impl<D: Disk> Journal<D> {
         requires closed { self.old.1.standing ≡ Standing.Closed }
         requires small { self.old.1.end + 1 + length block.now ≤ limit }
         ensures ok { OnOk result ((bodies : List (List ℕ)) (body : List ℕ) → block.now ≡ framed body ++ 0 ∷ []
-            → Stands (D.told self.old.0) self.old.1 bodies [] → Stands (D.told self.new.0) self.new.1 bodies (body ∷ [])) }
+            → GateStands (D.told self.old.0) self.old.1 bodies [] → GateStands (D.told self.new.0) self.new.1 bodies (body ∷ [])) }
         ensures ajar { OnOk result (self.new.1.standing ≡ Standing.Doubtful) }
         ensures room { OnOk result (ForSome (D.told self.new.0) (λ known. self.old.1.end + 1 + length block.now ≤ length known.now.sure)) }
-        ensures err { OnErr result ((bodies : List (List ℕ)) → Stands (D.told self.old.0) self.old.1 bodies [] → Stands (D.told self.new.0) self.new.1 bodies []) }
+        ensures err { OnErr result ((bodies : List (List ℕ)) → GateStands (D.told self.old.0) self.old.1 bodies [] → GateStands (D.told self.new.0) self.new.1 bodies []) }
         ensures end { self.new.1.end ≡ self.old.1.end }
-        ensures crash { (bodies : List (List ℕ)) → Stands (D.told self.old.0) self.old.1 bodies []
+        ensures crash { (bodies : List (List ℕ)) → GateStands (D.told self.old.0) self.old.1 bodies []
             → Throughout (LeavesBodies bodies []) (D.told self.old.0) (D.told self.new.0) }
         ensures failed { OnErr result (Rose (D.faults self.old.0) (D.faults self.new.0)) }
         ensures faults { D.faults self.old.0 ≤ D.faults self.new.0 }
@@ -128,11 +128,11 @@ impl<D: Disk> Journal<D> {
         requires small { next < limit }
         requires room { ForSome (D.told self.old.0) (λ known. next < length known.now.sure) }
         ensures ok { OnOk result ((bodies : List (List ℕ)) (body : List ℕ) → next ≡ self.old.1.end + 5 + length body
-            → Stands (D.told self.old.0) self.old.1 bodies (body ∷ []) → Stands (D.told self.new.0) self.new.1 (bodies ++ body ∷ []) []) }
+            → GateStands (D.told self.old.0) self.old.1 bodies (body ∷ []) → GateStands (D.told self.new.0) self.new.1 (bodies ++ body ∷ []) []) }
         ensures place { OnOk result (self.new.1 ≡ record { end = next; standing = Standing.Fresh self.old.1.end }) }
-        ensures err { OnErr result ((bodies others : List (List ℕ)) → Stands (D.told self.old.0) self.old.1 bodies others → Stands (D.told self.new.0) self.new.1 bodies others) }
+        ensures err { OnErr result ((bodies others : List (List ℕ)) → GateStands (D.told self.old.0) self.old.1 bodies others → GateStands (D.told self.new.0) self.new.1 bodies others) }
         ensures same { OnErr result (self.new.1 ≡ self.old.1) }
-        ensures crash { (bodies others : List (List ℕ)) → Stands (D.told self.old.0) self.old.1 bodies others
+        ensures crash { (bodies others : List (List ℕ)) → GateStands (D.told self.old.0) self.old.1 bodies others
             → Throughout (LeavesBodies bodies others) (D.told self.old.0) (D.told self.new.0) }
         ensures failed { OnErr result (Rose (D.faults self.old.0) (D.faults self.new.0)) }
         ensures faults { D.faults self.old.0 ≤ D.faults self.new.0 }
@@ -155,14 +155,14 @@ impl<D: Disk> Journal<D> {
     pub fn append(&mut self, alloc: Global, entry: &Record) -> Result<(), AppendFault>
         requires { IsRecord entry.now }
         ensures ok { OnOk result ((records others : List Entry) → Keeps D.told self.old records others → Keeps D.told self.new (records ++ entry.now ∷ []) []) }
-        ensures written { OnOk result ((bodies others : List (List ℕ)) → Stands (D.told (disk_of self.old)) (place_of self.old) bodies others
-            → Stands (D.told (disk_of self.new)) (place_of self.new) (bodies ++ body_of entry.now ∷ []) []) }
-        ensures fresh { OnOk result ((last : ℕ) × ((place_of self.new).standing ≡ Standing.Fresh last)) }
+        ensures written { OnOk result ((bodies others : List (List ℕ)) → GateStands (D.told (disk_of self.old)) (journal_place self.old) bodies others
+            → GateStands (D.told (disk_of self.new)) (journal_place self.new) (bodies ++ body_of entry.now ∷ []) []) }
+        ensures fresh { OnOk result ((last : ℕ) × ((journal_place self.new).standing ≡ Standing.Fresh last)) }
         ensures err { OnErr result ((records others : List Entry) → Keeps D.told self.old records others
             → (left : List Entry) × Keeps D.told self.new records left × AreAmong (entry.now ∷ others) left) }
         ensures crash { (records others : List Entry) → Keeps D.told self.old records others
             → Throughout (Leaves records (entry.now ∷ others)) (D.told (disk_of self.old)) (D.told (disk_of self.new)) }
-        ensures full { IsFullExactly (length_with (place_of self.old) entry.now) result }
+        ensures full { IsFullExactly (length_with (journal_place self.old) entry.now) result }
         ensures same { result ≢ Err AppendFault.KeepFailed → OnErr result (self.new ≡ self.old) }
         ensures failed { result ≡ Err AppendFault.KeepFailed → Rose (D.faults (disk_of self.old)) (D.faults (disk_of self.new)) }
         ensures faults { D.faults (disk_of self.old) ≤ D.faults (disk_of self.new) }
@@ -184,7 +184,7 @@ impl<D: Disk> Journal<D> {
 
     /// Takes the last record back, which was acknowledged by the last call that changed the journal. It counts as not written.
     pub fn take_back(&mut self)
-        requires { (last : ℕ) × ((place_of self.old).standing ≡ Standing.Fresh last) }
+        requires { (last : ℕ) × ((journal_place self.old).standing ≡ Standing.Fresh last) }
         ensures keeps { (records others : List Entry) (entry : Entry) → Keeps D.told self.old (records ++ entry ∷ []) others → Keeps D.told self.new records (entry ∷ []) }
         ensures disk { disk_of self.new ≡ disk_of self.old }
     {

@@ -2,7 +2,7 @@
 ghost use Rattle.std.specs.Prelude.{◌≡◌, ◌≢◌, ◌≤◌, ◌<◌, ◌-◌, true, false, length, [], Some, Err, IfOk, IfErr, OnOk, OnErr, IfSome, option_map, take};
 ghost use Rattle.std.specs.Option.{ForSome};
 ghost use Rattle.ps_io.specs.Counts.{Rose};
-ghost use Rattle.ps_io.specs.Calls.{Begins, IsCounted, fails_next};
+ghost use Rattle.ps_io.specs.Calls.{BeginsCounting, CallIsCounted, fails_next};
 ghost use Rattle.ps_journal.specs.Moments.{MayLeave};
 ghost use Rattle.ps_journal.specs.Disks.{overwritten, settled, wrote, half_wrote, synced, FailsToWrite, ReadsDisk};
 
@@ -101,7 +101,7 @@ impl MemoryDisk {
     pub fn new(alloc: Global, content: Items<u8>, failing: Items<u64>) -> Result<MemoryDisk, Memory>
         ensures told { IfOk result (λ disk. ⟦<MemoryDisk as Disk>⟧.told disk ≡ Some (record { content = content; now = settled content; past = [] })) }
         ensures faults { IfOk result (λ disk. ⟦<MemoryDisk as Disk>⟧.faults disk ≡ 0) }
-        ensures calls { IfOk result (λ disk. Begins failing disk.calls) }
+        ensures calls { IfOk result (λ disk. BeginsCounting failing disk.calls) }
     {
         let sure = copy_bytes(alloc, content.as_slice())?;
         Ok(MemoryDisk {

@@ -4,7 +4,7 @@ ghost use Rattle.ps_io.specs.Counts.{Rose};
 ghost use Rattle.ps_journal.specs.Layout.{empty, limit};
 ghost use Rattle.ps_journal.specs.Records.{IsRecord};
 ghost use Rattle.ps_journal.specs.Disks.{wrote, synced, FailsToWrite};
-ghost use Rattle.ps_journal.specs.Opening.{Opens, IsLoaded, IsMade, Reopens};
+ghost use Rattle.ps_journal.specs.Opening.{Opens, IsLoaded, JournalIsMade, Reopens};
 
 use crate::journals::LIMIT;
 use crate::puts::put;
@@ -48,7 +48,7 @@ fn fetch<D: Disk>(alloc: Global, disk: &mut D) -> Result<Vec<u8>, OpenFault>
 pub(crate) fn load<D: Disk>(alloc: Global, disk: &mut D) -> Result<(u64, Vec<Record>), OpenFault>
     ensures valid { IfOk result (λ found. All IsRecord found.1.items) }
     ensures ok { IfOk result (λ found. IsLoaded (D.told disk.old) (D.told disk.new) found.0 found.1.items) }
-    ensures made { OnOk result (IsMade (D.told disk.old) (D.told disk.new)) }
+    ensures made { OnOk result (JournalIsMade (D.told disk.old) (D.told disk.new)) }
     ensures err { IfErr result (λ fault. IfSome (D.told disk.old) (λ known. Opens known.content (Err fault))) }
     ensures crash { Reopens (D.told disk.old) (D.told disk.new) }
     ensures failed { result ≡ Err OpenFault.Failed → Rose (D.faults disk.old) (D.faults disk.new) }

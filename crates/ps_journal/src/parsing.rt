@@ -2,8 +2,8 @@
 ghost use Rattle.std.specs.Prelude.{◌≡◌, ◌≤◌, IfOk, IfSome, option_map};
 ghost use Rattle.ps_data.specs.Documents.{json_of};
 ghost use Rattle.ps_data.specs.Numbers.{greatest};
-ghost use Rattle.ps_changes.specs.Borrowed.{seen};
-ghost use Rattle.ps_journal.specs.Records.{text_in, decimal_in, number_in as number_of, upload_in as upload_of, record_in as record_in_json, record_of as record_of_body, IsRecord};
+ghost use Rattle.ps_changes.specs.Borrowed.{borrowed_data};
+ghost use Rattle.ps_journal.specs.Records.{text_in, decimal_in, number_record as number_of, upload_in as upload_of, record_in as record_in_json, record_of as record_of_body, IsRecord};
 
 use crate::Record;
 use json::{Scratch, Value as Borrowed};
@@ -30,7 +30,7 @@ fn json_in<'a>(
     bytes: &'a [u8],
     room: &'a mut Scratch,
 ) -> Result<Option<Borrowed<'a>>, Memory>
-    ensures { IfOk result (λ found. option_map seen found ≡ json_of bytes.now) }
+    ensures { IfOk result (λ found. option_map borrowed_data found ≡ json_of bytes.now) }
 {
     match read_borrowed(alloc, bytes, room) {
         Ok(json) => Ok(Some(json)),
@@ -47,7 +47,7 @@ fn json_in<'a>(
 
 // The record that a JSON value is: an upload or a number, and not both at once.
 fn record_in(alloc: Global, json: &Borrowed<'_>) -> Result<Option<Record>, Memory>
-    ensures value { IfOk result (λ found. found ≡ record_in_json (seen json.now)) }
+    ensures value { IfOk result (λ found. found ≡ record_in_json (borrowed_data json.now)) }
     ensures valid { IfOk result (λ found. IfSome found IsRecord) }
 {
     match (member(json, "upload"), member(json, "number")) {
@@ -59,7 +59,7 @@ fn record_in(alloc: Global, json: &Borrowed<'_>) -> Result<Option<Record>, Memor
 
 #[tactic(auto, unfolding(crate::specs::Records::upload_in))]
 fn upload_in(alloc: Global, json: &Borrowed<'_>) -> Result<Option<Record>, Memory>
-    ensures value { IfOk result (λ found. found ≡ upload_of (seen json.now)) }
+    ensures value { IfOk result (λ found. found ≡ upload_of (borrowed_data json.now)) }
     ensures valid { IfOk result (λ found. IfSome found IsRecord) }
 {
     match transaction_in(alloc, json) {
@@ -76,7 +76,7 @@ fn upload_in(alloc: Global, json: &Borrowed<'_>) -> Result<Option<Record>, Memor
 }
 
 fn number_in(alloc: Global, json: &Borrowed<'_>) -> Result<Option<Record>, Memory>
-    ensures value { IfOk result (λ found. found ≡ number_of (seen json.now)) }
+    ensures value { IfOk result (λ found. found ≡ number_of (borrowed_data json.now)) }
     ensures valid { IfOk result (λ found. IfSome found IsRecord) }
 {
     let Some(user) = read_text(alloc, json, "user")? else {
@@ -100,7 +100,7 @@ fn number_in(alloc: Global, json: &Borrowed<'_>) -> Result<Option<Record>, Memor
 }
 
 fn text_at<'a>(json: &Borrowed<'a>, name: &str) -> Option<&'a str>
-    ensures { option_map (λ text. text.now) result ≡ text_in name.now (seen json.now) }
+    ensures { option_map (λ text. text.now) result ≡ text_in name.now (borrowed_data json.now) }
 {
     match member(json, name) {
         Some(found) => as_text(found),
@@ -109,7 +109,7 @@ fn text_at<'a>(json: &Borrowed<'a>, name: &str) -> Option<&'a str>
 }
 
 fn read_text(alloc: Global, json: &Borrowed<'_>, name: &str) -> Result<Option<Text>, Memory>
-    ensures { IfOk result (λ found. found ≡ text_in name.now (seen json.now)) }
+    ensures { IfOk result (λ found. found ≡ text_in name.now (borrowed_data json.now)) }
 {
     match text_at(json, name) {
         Some(text) => Ok(Some(Text::from_str(alloc, text)?)),
@@ -119,7 +119,7 @@ fn read_text(alloc: Global, json: &Borrowed<'_>, name: &str) -> Result<Option<Te
 
 // The number of a decimal text under a name.
 fn read_number(alloc: Global, json: &Borrowed<'_>, name: &str) -> Result<Option<u64>, Memory>
-    ensures value { IfOk result (λ found. found ≡ decimal_in name.now (seen json.now)) }
+    ensures value { IfOk result (λ found. found ≡ decimal_in name.now (borrowed_data json.now)) }
     ensures small { IfOk result (λ found. IfSome found (λ number. number ≤ greatest)) }
 {
     match read_text(alloc, json, name)? {

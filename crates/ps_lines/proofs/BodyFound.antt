@@ -13,7 +13,7 @@ use Rattle.ps_lines.specs.Types.{Known, StreamBody, LineFault, BadJson, BadShape
 use Rattle.ps_lines.specs.Members.{Reads, or_fault, text_at, id_at}
 use Rattle.ps_lines.specs.Shapes.{is_list, may_have_text}
 use Rattle.ps_lines.specs.BodyShapes.{is_position, may_have_positions, may_have_object, may_have_true, may_have_truth, is_body}
-use Rattle.ps_lines.specs.Bodies.{last_ones, known_of, entries_known, entries_in, positions_of, client_of, plain_text, parameters_of, shaped_body, body_of_json, body_of}
+use Rattle.ps_lines.specs.Bodies.{last_ones, known_of, entries_known, entries_in, body_positions, client_of, plain_text, parameters_of, shaped_body, body_of_json, body_of}
 use Rattle.ps_lines.specs.Grammar.{AreAll}
 use Rattle.ps_lines.specs.BodyGrammar.{IsKnown, HasPositions, HasClient, HasParameters, HasBody, IsBodyOf}
 use Rattle.ps_lines.proofs.Found.{no_ok, ok_same, bound, there, not_so, left_of, right_of, text_found, id_found, no_cons}
@@ -52,7 +52,7 @@ list_by law (Some (string s)) entries shape h = absurd (not_so shape)
 list_by law (Some (array ds)) entries shape h = inr (ds, refl, entries_found law ds entries h)
 list_by law (Some (object ms)) entries shape h = absurd (not_so shape)
 
-positions_found : ReadsWhatIsWritten → (d : Json) (positions : List Known) → may_have_positions (codes "buckets") d ≡ true → positions_of d ≡ Ok positions → HasPositions d positions
+positions_found : ReadsWhatIsWritten → (d : Json) (positions : List Known) → may_have_positions (codes "buckets") d ≡ true → body_positions d ≡ Ok positions → HasPositions d positions
 positions_found law d positions shape h =
     let entries = bound (entries_in (option_and_then as_array (get (codes "buckets") d))) _ positions h in
     let same : last_ones entries.0 ≡ positions = ok_same _ positions entries.2 in
@@ -160,7 +160,7 @@ shaped_found law d body h =
     let both = taken (is_body d) (shaped_body d) body h in
     let so = all_so (is_some (as_object d)) (may_have_positions (codes "buckets") d) (may_have_text (codes "client_id") d) (may_have_object (codes "parameters") d)
     (may_have_true (codes "raw_data") d) (may_have_truth (codes "include_checksum") d) both.0 in
-    let positions = bound (positions_of d) (λ (ps : List Known). Ok (made_body ps (client_of d) (parameters_of d))) body both.1 in
+    let positions = bound (body_positions d) (λ (ps : List Known). Ok (made_body ps (client_of d) (parameters_of d))) body both.1 in
     let same : made_body positions.0 (client_of d) (parameters_of d) ≡ body = ok_same _ body positions.2 in
     let made : HasBody d (made_body positions.0 (client_of d) (parameters_of d)) = record {
       positions = positions_found law d positions.0 so.positions positions.1;

@@ -8,7 +8,7 @@ use Rattle.ps_lines.specs.Types.{Known, StreamBody, LineFault}
 use Rattle.ps_lines.specs.Members.{Reads}
 use Rattle.ps_lines.specs.Shapes.{all_items, is_list, may_have_text}
 use Rattle.ps_lines.specs.BodyShapes.{is_position, may_have_positions, may_have_object, may_have_true, may_have_truth}
-use Rattle.ps_lines.specs.Bodies.{known_of, entries_known, entries_in, positions_of, client_of, parameters_of, body_of_json, body_of}
+use Rattle.ps_lines.specs.Bodies.{known_of, entries_known, entries_in, body_positions, client_of, parameters_of, body_of_json, body_of}
 use Rattle.ps_lines.specs.Grammar.{HasTruth, IsAbsent, AreAll}
 use Rattle.ps_lines.specs.BodyGrammar.{IsKnown, HasPositions, HasClient, HasParameters, HasBody, IsBodyOf}
 use Rattle.ps_lines.proofs.Only.{text_read, id_read}
@@ -29,7 +29,7 @@ no_positions : (o : Option Json) → (o ≡ None) ⊎ (o ≡ Some null)
     → ((is_none o || is_some (option_and_then as_null o) || is_list is_position (option_and_then as_array o)) ≡ true) × (entries_in (option_and_then as_array o) ≡ Ok [])
 no_positions o h = elim h [ inl w ↦ (rw w refl, rw w refl) | inr w ↦ (rw w refl, rw w refl) ]
 
-positions_read : ReadsWhatIsWritten → (d : Json) (positions : List Known) → HasPositions d positions → (may_have_positions (codes "buckets") d ≡ true) × (positions_of d ≡ Ok positions)
+positions_read : ReadsWhatIsWritten → (d : Json) (positions : List Known) → HasPositions d positions → (may_have_positions (codes "buckets") d ≡ true) × (body_positions d ≡ Ok positions)
 positions_read law d positions h = elim h [
   | inl w ↦ let none = no_positions (get (codes "buckets") d) w.0 in (none.0, rw none.1 (ap (λ (ps : List Known). Ok ps) (sym w.1)))
   | inr w ↦

@@ -18,7 +18,7 @@ use Rattle.ps_lines.specs.Shapes.{all_items}
 use Rattle.ps_lines.specs.BodyShapes.{is_position}
 use Rattle.ps_lines.specs.Bodies.{entries_known, known_of, body_of_json, body_of, IsBody}
 use Rattle.ps_lines.specs.BodyTexts.{known_json, client_member, body_json, body_text}
-use Rattle.ps_lines.specs.Writing.{object_of, list_json}
+use Rattle.ps_lines.specs.Writing.{object_with, list_json}
 use Rattle.ps_lines.proofs.Kept.{distinct_kept}
 use Rattle.ps_lines.proofs.RoundTrips.{ReadsBack, all_back}
 use Rattle.ps_lines.proofs.Texts.{items_plain, items_shallow}
@@ -51,7 +51,7 @@ positions_shape positions = all_back known_json is_position known_shape position
 
 -- the JSON of a body with these parameters
 abbrev whole : List Known → Option (List ℕ) → Json → Json
-whole positions client parameters = object_of (
+whole positions client parameters = object_with (
     (codes "buckets", list_json known_json positions) ∷ client_member client ++ (codes "parameters", parameters) ∷ [])
 
 whole_plain : (positions : List Known) (client : Option (List ℕ)) (parameters : Json) → has_float parameters ≡ false → has_float (whole positions client parameters) ≡ false

@@ -18,9 +18,9 @@ use Rattle.ps_bucket_log.specs.declared.ops.Op.TheVariants.{Put, Remove}
 use Rattle.ps_bucket_log.specs.Ops.{id_of, newest}
 use Rattle.ps_bucket_log.specs.Logs.{IsRising}
 use Rattle.ps_lines.specs.Types.{Entry, Line, Data, Unknown, LineFault, BadJson, BadShape, BadNumber}
-use Rattle.ps_lines.specs.Members.{Reads, ◌>>=◌, or_fault, within, text_at, truth_at, list_at, number_at, decimal_at, id_at, sum_of, sum_at, whole_of, whole_or, whole_at, priority_at}
+use Rattle.ps_lines.specs.Members.{Reads, ◌>>=◌, or_fault, if_in_range, text_at, truth_at, list_at, number_at, decimal_at, id_at, sum_of, sum_at, whole_of, whole_or, whole_at, priority_at}
 use Rattle.ps_lines.specs.Shapes.{has_text, has_truth, has_number, may_have_text, all_items, is_list, has_list, is_op_of, is_op, is_checkpoint, is_diff, is_data}
-use Rattle.ps_lines.specs.Reading.{upload_at, entry_of, entries_of, text_of, texts_of, key_of, put_of, remove_of, op_named, op_of, ops_of, rises_from, leads, checkpoint_of, diff_of, data_of, complete_of, expires_of, shaped, line_named, line_of_members, line_of_json, without_feed, line_of}
+use Rattle.ps_lines.specs.Reading.{upload_at, checkpoint_entry, checkpoint_entries, string_of, texts_of, key_in, put_in, remove_of, op_named, op_of, ops_in, rises_from, leads, checkpoint_of, diff_of, data_line_of, complete_of, expires_of, shaped, line_named, line_of_members, line_of_json, without_feed, line_of}
 use Rattle.ps_lines.specs.Grammar.{HasText, HasTruth, HasDecimal, HasWholeOr, IsModulo, HasSum, AreAll, HasUpload, IsText, IsEntry, HasKey, IsOpOf, MayHaveData, IsOp, IsNamed, IsLine}
 
 -- ---- steps that were taken
@@ -42,7 +42,7 @@ pub there : {A : Type 0} (fault : LineFault) (o : Option A) (x : A) → or_fault
 there fault (Some y) x h = ap Some (ok_same y x h)
 there fault None x h = absurd (no_ok fault x h)
 
-tested : {A : Type 0} (b : Bool) (x y : A) → within b x ≡ Ok y → (b ≡ true) × (x ≡ y)
+tested : {A : Type 0} (b : Bool) (x y : A) → if_in_range b x ≡ Ok y → (b ≡ true) × (x ≡ y)
 tested true x y h = (refl, ok_same x y h)
 tested false x y h = absurd (no_ok BadNumber y h)
 
@@ -204,7 +204,7 @@ whole_or_found missing name d n h = whole_by missing (get name d) n h
 abbrev entry : List ℕ → Sum → ℕ → ℕ → Entry
 entry bucket sum count priority = record { bucket = bucket; sum = sum; count = count; priority = priority }
 
-entry_found : (d : Json) (e : Entry) → entry_of d ≡ Ok e → IsEntry d e
+entry_found : (d : Json) (e : Entry) → checkpoint_entry d ≡ Ok e → IsEntry d e
 entry_found d e h =
     let bucket = bound (text_at (codes "bucket") d) _ e h in
     let total = bound (sum_at (codes "checksum") d) _ e bucket.2 in
@@ -223,23 +223,23 @@ entry_found d e h =
     } in
     subst (λ (x : Entry). IsEntry d x) same made
 
-entries_found : (ds : Items) (xs : List Entry) → entries_of ds ≡ Ok xs → AreAll IsEntry ds xs
+entries_found : (ds : Items) (xs : List Entry) → checkpoint_entries ds ≡ Ok xs → AreAll IsEntry ds xs
 entries_found no_items [] h = tt
 entries_found no_items (x ∷ xs) h = absurd (no_cons x xs (ok_same [] (x ∷ xs) h))
 entries_found (item d ds) xs h =
-    let first = bound (entry_of d) _ xs h in
-    let more = bound (entries_of ds) _ xs first.2 in
+    let first = bound (checkpoint_entry d) _ xs h in
+    let more = bound (checkpoint_entries ds) _ xs first.2 in
     let same : first.0 ∷ more.0 ≡ xs = ok_same _ xs more.2 in
     subst (λ (ys : List Entry). AreAll IsEntry (item d ds) ys) same (entry_found d first.0 first.1, entries_found ds more.0 more.1)
 
-text_is : (d : Json) (text : List ℕ) → text_of d ≡ Ok text → IsText d text
+text_is : (d : Json) (text : List ℕ) → string_of d ≡ Ok text → IsText d text
 text_is d text h = str_is d text (there BadShape (as_str d) text h)
 
 texts_found : (ds : Items) (xs : List (List ℕ)) → texts_of ds ≡ Ok xs → AreAll IsText ds xs
 texts_found no_items [] h = tt
 texts_found no_items (x ∷ xs) h = absurd (no_cons x xs (ok_same [] (x ∷ xs) h))
 texts_found (item d ds) xs h =
-    let first = bound (text_of d) _ xs h in
+    let first = bound (string_of d) _ xs h in
     let more = bound (texts_of ds) _ xs first.2 in
     let same : first.0 ∷ more.0 ≡ xs = ok_same _ xs more.2 in
     subst (λ (ys : List (List ℕ)). AreAll IsText (item d ds) ys) same (text_is d first.0 first.1, texts_found ds more.0 more.1)
@@ -247,7 +247,7 @@ texts_found (item d ds) xs h =
 abbrev key : List ℕ → List ℕ → List ℕ → Key
 key kind id subkey = record { kind = kind; id = id; subkey = subkey }
 
-key_found : (d : Json) (k : Key) → key_of d ≡ Ok k → HasKey d k
+key_found : (d : Json) (k : Key) → key_in d ≡ Ok k → HasKey d k
 key_found d k h =
     let kind = bound (text_at (codes "object_type") d) _ k h in
     let own = bound (text_at (codes "object_id") d) _ k kind.2 in
@@ -293,16 +293,16 @@ op_of_found law op name d i s same named own total = record {
   checksum = sum_found d s total;
 }
 
-put_found : (d : Json) (i : OpId) (s : Sum) (op : Op) → IsOpOf (codes "PUT") d i s → put_of i s d ≡ Ok op → IsOp d op
+put_found : (d : Json) (i : OpId) (s : Sum) (op : Op) → IsOpOf (codes "PUT") d i s → put_in i s d ≡ Ok op → IsOp d op
 put_found d i s op is h =
-    let key = bound (key_of d) _ op h in
+    let key = bound (key_in d) _ op h in
     let content = bound (text_at (codes "data") d) _ op key.2 in
     let same : Put i key.0 content.0 s ≡ op = ok_same _ op content.2 in
     subst (λ (x : Op). IsOp d x) same (is, key_found d key.0 key.1, text_found (codes "data") d content.0 content.1)
 
 remove_found : (d : Json) (i : OpId) (s : Sum) (op : Op) → IsOpOf (codes "REMOVE") d i s → MayHaveData d → remove_of i s d ≡ Ok op → IsOp d op
 remove_found d i s op is data_there h =
-    let key = bound (key_of d) _ op h in
+    let key = bound (key_in d) _ op h in
     let same : Remove i key.0 s ≡ op = ok_same _ op key.2 in
     subst (λ (x : Op). IsOp d x) same (is, key_found d key.0 key.1, data_there)
 
@@ -331,12 +331,12 @@ op_found law d op shape h =
     let total = bound (sum_at (codes "checksum") d) _ op own.2 in
     named_found law name.0 d own.0 total.0 op (op_data d shape) (text_found (codes "op") d name.0 name.1) own.1 total.1 total.2
 
-ops_found : ReadsWhatIsWritten → (ds : Items) (xs : List Op) → all_items is_op ds ≡ true → ops_of ds ≡ Ok xs → AreAll IsOp ds xs
+ops_found : ReadsWhatIsWritten → (ds : Items) (xs : List Op) → all_items is_op ds ≡ true → ops_in ds ≡ Ok xs → AreAll IsOp ds xs
 ops_found law no_items [] shape h = tt
 ops_found law no_items (x ∷ xs) shape h = absurd (no_cons x xs (ok_same [] (x ∷ xs) h))
 ops_found law (item d ds) xs shape h =
     let first = bound (op_of d) _ xs h in
-    let more = bound (ops_of ds) _ xs first.2 in
+    let more = bound (ops_in ds) _ xs first.2 in
     let same : first.0 ∷ more.0 ≡ xs = ok_same _ xs more.2 in
     subst (λ (ys : List Op). AreAll IsOp (item d ds) ys) same (
       op_found law d first.0 (left_of (is_op d) (all_items is_op ds) shape) first.1,
@@ -393,7 +393,7 @@ checkpoint_found law name d line is h =
     let last_op = bound (id_at (codes "last_op_id") d) _ line h in
     let upload = bound (upload_at d) _ line last_op.2 in
     let list = bound (list_at (codes "buckets") d) _ line upload.2 in
-    let buckets = bound (entries_of list.0) _ line list.2 in
+    let buckets = bound (checkpoint_entries list.0) _ line list.2 in
     subst (λ (x : Line). IsNamed name d x) (ok_same _ line buckets.2) (
       is,
       id_found law (codes "last_op_id") d last_op.0 last_op.1,
@@ -408,7 +408,7 @@ diff_found law name d line is h =
     let gone = bound (list_at (codes "removed_buckets") d) _ line upload.2 in
     let removed = bound (texts_of gone.0) _ line gone.2 in
     let list = bound (list_at (codes "updated_buckets") d) _ line removed.2 in
-    let updated = bound (entries_of list.0) _ line list.2 in
+    let updated = bound (checkpoint_entries list.0) _ line list.2 in
     subst (λ (x : Line). IsNamed name d x) (ok_same _ line updated.2) (
       is,
       id_found law (codes "last_op_id") d last_op.0 last_op.1,
@@ -429,13 +429,13 @@ data_shape d ds e h =
     let next = has_text (codes "next_after") d in
     list_by is_op (get (codes "data") d) ds e (right_of ((bucket && after) && has_more) list (left_of (((bucket && after) && has_more) && list) next h))
 
-data_line_found : ReadsWhatIsWritten → (name : List ℕ) (d : Json) (line : Line) → name ≡ codes "data" → is_data d ≡ true → data_of d ≡ Ok line → IsNamed name d line
+data_line_found : ReadsWhatIsWritten → (name : List ℕ) (d : Json) (line : Line) → name ≡ codes "data" → is_data d ≡ true → data_line_of d ≡ Ok line → IsNamed name d line
 data_line_found law name d line is shape h =
     let bucket = bound (text_at (codes "bucket") d) _ line h in
     let after = bound (id_at (codes "after") d) _ line bucket.2 in
     let has_more = bound (truth_at (codes "has_more") d) _ line after.2 in
     let list = bound (list_at (codes "data") d) _ line has_more.2 in
-    let ops = bound (ops_of list.0) _ line list.2 in
+    let ops = bound (ops_in list.0) _ line list.2 in
     let next = bound (id_at (codes "next_after") d) _ line ops.2 in
     let leading = tested (leads after.0.0 ops.0 next.0.0) (Data bucket.0 after.0 has_more.0 ops.0 next.0) line next.2 in
     let led = leads_found after.0.0 next.0.0 ops.0 leading.0 in
@@ -476,7 +476,7 @@ line_named_found law name d line h =
       | inr w ↦ elim (chosen (bytes_eq name (codes "checkpoint_diff")) _ _ (Ok line) w.1) [
         | inl v ↦ diff_found law name d line (named_same name _ v.0) (shaped_found (is_diff d) (diff_of d) line v.1).1
         | inr v ↦ elim (chosen (bytes_eq name (codes "data")) _ _ (Ok line) v.1) [
-          | inl u ↦ let both = shaped_found (is_data d) (data_of d) line u.1 in data_line_found law name d line (named_same name _ u.0) both.0 both.1
+          | inl u ↦ let both = shaped_found (is_data d) (data_line_of d) line u.1 in data_line_found law name d line (named_same name _ u.0) both.0 both.1
           | inr u ↦ elim (chosen (bytes_eq name (codes "checkpoint_complete")) _ _ (Ok line) u.1) [
             | inl t ↦ complete_found law name d line (named_same name _ t.0) t.1
             | inr t ↦ elim (chosen (bytes_eq name (codes "token_expires_in")) _ _ (Ok line) t.1) [

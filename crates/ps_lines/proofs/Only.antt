@@ -15,8 +15,8 @@ use Rattle.ps_bucket_log.specs.Ops.{id_of, newest}
 use Rattle.ps_bucket_log.specs.Logs.{IsRising}
 use Rattle.ps_lines.specs.Types.{Entry, Line, Checkpoint, Diff, Data, Complete, Expires, Unknown, LineFault, BadShape}
 use Rattle.ps_lines.specs.Members.{Reads, or_fault, text_at, decimal_at, id_at, sum_of, sum_at, whole_at}
-use Rattle.ps_lines.specs.Shapes.{has_number, may_have_number, may_have_text, all_items, is_text, is_entry, is_op}
-use Rattle.ps_lines.specs.Reading.{upload_at, entry_of, entries_of, texts_of, op_of, ops_of, rises_from, leads, line_named, line_of}
+use Rattle.ps_lines.specs.Shapes.{has_number, may_have_number, may_have_text, all_items, is_string, has_entry_shape, is_op}
+use Rattle.ps_lines.specs.Reading.{upload_at, checkpoint_entry, checkpoint_entries, texts_of, op_of, ops_in, rises_from, leads, line_named, line_of}
 use Rattle.ps_lines.specs.Grammar.{HasText, HasDecimal, HasWholeOr, IsModulo, HasSum, AreAll, HasUpload, IsText, IsEntry, MayHaveData, IsOp, IsNamed, IsLine}
 use Rattle.ps_lines.proofs.Found.{some_same, no_some, sum}
 
@@ -58,22 +58,22 @@ whole_or_read missing name d n h = elim h [ inl w ↦ rw w refl | inr w ↦ rw w
 whole_or_shape : (missing : ℕ) (name : List ℕ) (d : Json) (n : ℕ) → HasWholeOr missing name d n → may_have_number name d ≡ true
 whole_or_shape missing name d n h = elim h [ inl w ↦ rw w refl | inr w ↦ rw w.0 refl ]
 
-entry_read : (d : Json) (e : Entry) → IsEntry d e → entry_of d ≡ Ok e
+entry_read : (d : Json) (e : Entry) → IsEntry d e → checkpoint_entry d ≡ Ok e
 entry_read d e h =
     let least : leb e.priority 3 ≡ true = grind (arith, nat_tests, h.urgent) in
     rw (text_read (codes "bucket") d e.bucket h.bucket, sum_read d e.sum h.sum, whole_or_read 0 (codes "count") d e.count h.count, whole_or_read 3 (codes "priority") d e.priority h.priority, least) refl
 
-entry_shape : (d : Json) (e : Entry) → IsEntry d e → is_entry d ≡ true
+entry_shape : (d : Json) (e : Entry) → IsEntry d e → has_entry_shape d ≡ true
 entry_shape d e h =
     rw (h.bucket, sum_shape d e.sum h.sum, whole_or_shape 0 (codes "count") d e.count h.count, whole_or_shape 3 (codes "priority") d e.priority h.priority) refl
 
-entries_read : (ds : Items) (xs : List Entry) → AreAll IsEntry ds xs → entries_of ds ≡ Ok xs
+entries_read : (ds : Items) (xs : List Entry) → AreAll IsEntry ds xs → checkpoint_entries ds ≡ Ok xs
 entries_read no_items [] h = refl
 entries_read no_items (x ∷ xs) h = absurd h
 entries_read (item d ds) [] h = absurd h
 entries_read (item d ds) (x ∷ xs) h = rw (entry_read d x h.0, entries_read ds xs h.1) refl
 
-entries_shape : (ds : Items) (xs : List Entry) → AreAll IsEntry ds xs → all_items is_entry ds ≡ true
+entries_shape : (ds : Items) (xs : List Entry) → AreAll IsEntry ds xs → all_items has_entry_shape ds ≡ true
 entries_shape no_items [] h = refl
 entries_shape no_items (x ∷ xs) h = absurd h
 entries_shape (item d ds) [] h = absurd h
@@ -85,7 +85,7 @@ texts_read no_items (x ∷ xs) h = absurd h
 texts_read (item d ds) [] h = absurd h
 texts_read (item d ds) (x ∷ xs) h = rw (h.0, texts_read ds xs h.1) refl
 
-texts_shape : (ds : Items) (xs : List (List ℕ)) → AreAll IsText ds xs → all_items is_text ds ≡ true
+texts_shape : (ds : Items) (xs : List (List ℕ)) → AreAll IsText ds xs → all_items is_string ds ≡ true
 texts_shape no_items [] h = refl
 texts_shape no_items (x ∷ xs) h = absurd h
 texts_shape (item d ds) [] h = absurd h
@@ -108,7 +108,7 @@ op_shaped d (Remove id key sum) h = rw (data_shaped d h.2, h.0.op, h.0.op_id.0, 
 op_shaped d (Move id sum target) h = rw (data_shaped d h.2, h.0.op, h.0.op_id.0, sum_shape d sum h.0.checksum) refl
 op_shaped d (Clear id sum target) h = rw (data_shaped d h.2, h.0.op, h.0.op_id.0, sum_shape d sum h.0.checksum) refl
 
-ops_read : ReadsWhatIsWritten → (ds : Items) (xs : List Op) → AreAll IsOp ds xs → ops_of ds ≡ Ok xs
+ops_read : ReadsWhatIsWritten → (ds : Items) (xs : List Op) → AreAll IsOp ds xs → ops_in ds ≡ Ok xs
 ops_read law no_items [] h = refl
 ops_read law no_items (x ∷ xs) h = absurd h
 ops_read law (item d ds) [] h = absurd h

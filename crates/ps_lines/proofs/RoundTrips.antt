@@ -26,9 +26,9 @@ use Rattle.ps_lines.proofs.Tokens.{IsReadOfItsTokens, items_read, read_of_tokens
 use Rattle.ps_lines.specs.Tokens.{tokens_of}
 use Rattle.ps_lines.specs.declared.faults.LineFault.TheVariants.{BadNumber}
 use Rattle.ps_lines.specs.Types.{Entry, Line, Checkpoint, Diff, Data, Complete, Expires, Unknown}
-use Rattle.ps_lines.specs.Members.{or_fault, within, sum_of, ◌>>=◌}
-use Rattle.ps_lines.specs.Shapes.{all_items, is_entry, is_op, is_text}
-use Rattle.ps_lines.specs.Reading.{entry_of, entries_of, texts_of, op_of, ops_of, rises_from, leads, line_of_json, without_feed, line_of}
+use Rattle.ps_lines.specs.Members.{or_fault, if_in_range, sum_of, ◌>>=◌}
+use Rattle.ps_lines.specs.Shapes.{all_items, has_entry_shape, is_op, is_string}
+use Rattle.ps_lines.specs.Reading.{checkpoint_entry, checkpoint_entries, texts_of, op_of, ops_in, rises_from, leads, line_of_json, without_feed, line_of}
 use Rattle.ps_lines.specs.Writing.{entry_json, op_json, line_json, op_without_target, without_targets, IsWritable, SumsFit, CountsFit}
 
 -- decimals are read as they are written
@@ -44,13 +44,13 @@ sum_back n h =
     let narrow : leb n 4294967295 ≡ true = grind (arith, nat_tests) in
     rw wide (rw narrow refl)
 
-entry_back : (entry : Entry) → entry.sum.0 < 2 ^ 32 → entry.priority ≤ 3 → entry_of (entry_json entry) ≡ Ok entry
+entry_back : (entry : Entry) → entry.sum.0 < 2 ^ 32 → entry.priority ≤ 3 → checkpoint_entry (entry_json entry) ≡ Ok entry
 unfolding entry_json
 entry_back entry small urgent =
     let least : leb entry.priority 3 ≡ true = grind (arith, nat_tests) in
     rw (sum_back entry.sum.0 small) (rw least refl)
 
-entry_shape : (entry : Entry) → is_entry (entry_json entry) ≡ true
+entry_shape : (entry : Entry) → has_entry_shape (entry_json entry) ≡ true
 unfolding entry_json
 entry_shape entry = refl
 
@@ -59,7 +59,7 @@ all_back f is_one h [] = refl
 all_back f is_one h (x ∷ xs) = rw (h x) (all_back f is_one h xs)
 
 pub entries_back : (entries : List Entry) → All (λ entry. entry.sum.0 < 2 ^ 32) entries → All (λ entry. entry.priority ≤ 3) entries
-    → entries_of (items_of (map entry_json entries)) ≡ Ok entries
+    → checkpoint_entries (items_of (map entry_json entries)) ≡ Ok entries
 entries_back [] small urgent = refl
 entries_back (entry ∷ entries) small urgent =
     let here = entry_back entry (All-head (λ e. e.sum.0 < 2 ^ 32) entry entries small) (All-head (λ e. e.priority ≤ 3) entry entries urgent) in
@@ -84,17 +84,17 @@ op_shape (Remove id key sum) = refl
 op_shape (Move id sum target) = refl
 op_shape (Clear id sum target) = refl
 
-pub entries_shape : (entries : List Entry) → all_items is_entry (items_of (map entry_json entries)) ≡ true
-entries_shape entries = all_back entry_json is_entry entry_shape entries
+pub entries_shape : (entries : List Entry) → all_items has_entry_shape (items_of (map entry_json entries)) ≡ true
+entries_shape entries = all_back entry_json has_entry_shape entry_shape entries
 
-pub texts_shape : (texts : List (List ℕ)) → all_items is_text (items_of (map string texts)) ≡ true
-texts_shape texts = all_back string is_text (λ t. refl) texts
+pub texts_shape : (texts : List (List ℕ)) → all_items is_string (items_of (map string texts)) ≡ true
+texts_shape texts = all_back string is_string (λ t. refl) texts
 
 pub ops_shape : (ops : List Op) → all_items is_op (items_of (map op_json ops)) ≡ true
 ops_shape ops = all_back op_json is_op op_shape ops
 
 pub ops_back : ReadsBack → (ops : List Op) → All (λ op. checksum op < 2 ^ 32) ops → All (λ op. id_of op ≤ greatest) ops
-    → ops_of (items_of (map op_json ops)) ≡ Ok (map op_without_target ops)
+    → ops_in (items_of (map op_json ops)) ≡ Ok (map op_without_target ops)
 ops_back back [] small within = refl
 ops_back back (op ∷ ops) small within =
     let here = op_back back op (All-head (λ o. checksum o < 2 ^ 32) op ops small) (All-head (λ o. id_of o ≤ greatest) op ops within) in

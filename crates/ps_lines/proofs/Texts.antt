@@ -11,15 +11,15 @@ use Rattle.ps_bucket_log.specs.declared.ops.Op.{Op}
 use Rattle.ps_bucket_log.specs.declared.ops.Op.TheVariants.{Put, Remove, Move, Clear}
 use Rattle.ps_lines.specs.Tokens.{tokens_of}
 use Rattle.ps_lines.specs.Types.{Entry, Line, Checkpoint, Diff, Data, Complete, Expires, Unknown}
-use Rattle.ps_lines.specs.Writing.{entry_json, op_json, line_json, text_of}
+use Rattle.ps_lines.specs.Writing.{entry_json, op_json, line_json, text_of_line}
 
 pub items_plain : {A : Type 0} (f : A → Json) → ((x : A) → has_float (f x) ≡ false) → (xs : List A) → items_have_float (items_of (map f xs)) ≡ false
 items_plain f h [] = refl
 items_plain f h (x ∷ xs) = rw (h x) (items_plain f h xs)
 
 -- what is printed for the tokens of a line's JSON
-pub printed : (line : Line) (bytes front : List ℕ) (ts : List Token) → bytes ≡ front ++ print ts → front ≡ [] → ts ≡ tokens_of (line_json line) → bytes ++ 10 ∷ [] ≡ text_of line
-unfolding text_of
+pub printed : (line : Line) (bytes front : List ℕ) (ts : List Token) → bytes ≡ front ++ print ts → front ≡ [] → ts ≡ tokens_of (line_json line) → bytes ++ 10 ∷ [] ≡ text_of_line line
+unfolding text_of_line
 printed line bytes front ts e none is = rw (e, none, is) (ap (λ text. text ++ 10 ∷ []) (print-outline (line_json line)))
 
 -- ---- how deep they nest

@@ -42,8 +42,8 @@ abbrev pub entries_in : Option Items → Result (List Known) LineFault
 entries_in None = Ok []
 entries_in (Some list) = entries_known list
 
-abbrev pub positions_of : Json → Result (List Known) LineFault
-positions_of d = do
+abbrev pub body_positions : Json → Result (List Known) LineFault
+body_positions d = do
   entries ← entries_in (option_and_then as_array (get (codes "buckets") d))
   Ok (last_ones entries)
 
@@ -60,7 +60,7 @@ parameters_of d = plain_text (option_and_then as_object (get (codes "parameters"
 
 abbrev pub shaped_body : Json → Result StreamBody LineFault
 shaped_body d = do
-  positions ← positions_of d
+  positions ← body_positions d
   Ok (record { positions = positions; client = client_of d; parameters = parameters_of d })
 
 -- a fault of shape comes before any fault of number, wherever they stand

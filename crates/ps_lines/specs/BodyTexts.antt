@@ -5,10 +5,10 @@ use Rattle.serde_json.specs.Written.{compact_text}
 use Rattle.ps_data.specs.Documents.{json_of}
 use Rattle.ps_lines.specs.declared.bodies.Known.{Known}
 use Rattle.ps_lines.specs.declared.bodies.StreamBody.{StreamBody}
-use Rattle.ps_lines.specs.Writing.{object_of, decimal_json, list_json}
+use Rattle.ps_lines.specs.Writing.{object_with, decimal_json, list_json}
 
 unfoldable pub known_json : Known → Json
-known_json known = object_of ((codes "after", decimal_json known.after.0) ∷ (codes "name", string known.bucket) ∷ [])
+known_json known = object_with ((codes "after", decimal_json known.after.0) ∷ (codes "name", string known.bucket) ∷ [])
 
 -- left out where there is none
 abbrev pub client_member : Option (List ℕ) → List (List ℕ × Json)
@@ -20,7 +20,7 @@ abbrev pub json_text : List ℕ → Json
 json_text text = unwrap_or (json_of text) null
 
 abbrev pub body_json : StreamBody → Json
-body_json body = object_of (
+body_json body = object_with (
     (codes "buckets", list_json known_json body.positions)
     ∷ client_member body.client
     ++ (codes "parameters", json_text body.parameters)

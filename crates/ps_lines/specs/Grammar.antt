@@ -97,7 +97,7 @@ IsOp d (Move id sum target) = IsOpOf (codes "MOVE") d id sum × (target ≡ id) 
 IsOp d (Clear id sum target) = IsOpOf (codes "CLEAR") d id sum × (target ≡ None) × MayHaveData d
 
 -- a name that no line has
-pub record IsOther (name : List ℕ) : Type 0 where
+pub record IsOtherName (name : List ℕ) : Type 0 where
   pub checkpoint : name ≢ codes "checkpoint"
   pub diff : name ≢ codes "checkpoint_diff"
   pub data_line : name ≢ codes "data"
@@ -117,7 +117,7 @@ IsNamed name d (Data bucket after has_more ops next) = (name ≡ codes "data")
     × (ops ≢ []) × IsRising after.0 ops × (newest ops ≡ next.0)
 IsNamed name d (Complete last_op) = (name ≡ codes "checkpoint_complete") × HasDecimal (codes "last_op_id") d last_op.0
 IsNamed name d (Expires seconds) = (name ≡ codes "token_expires_in") × (d ≡ number (unsigned seconds))
-IsNamed name d Unknown = IsOther name
+IsNamed name d Unknown = IsOtherName name
 
 -- the bytes of a line: they are the JSON of an object with that single member, with or without a closing line feed
 abbrev pub IsLine : List ℕ → Line → Type 0

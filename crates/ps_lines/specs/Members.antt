@@ -20,8 +20,8 @@ or_fault fault (Some x) = Ok x
 or_fault fault None = Err fault
 
 -- what goes on where a number is in range
-abbrev pub within : {A : Type 0} → Bool → A → Result A LineFault
-within holds x = if holds then Ok x else Err BadNumber
+abbrev pub if_in_range : {A : Type 0} → Bool → A → Result A LineFault
+if_in_range holds x = if holds then Ok x else Err BadNumber
 
 -- what was read is what is meant, or the fault is; out of memory says nothing
 abbrev pub Reads : {X : Type 0} → Result X LineFault → Result X LineFault → Type 0
@@ -56,8 +56,8 @@ id_at name d = do
 
 -- a whole number from -2 ^ 31 to 2 ^ 32 - 1, modulo 2 ^ 32
 abbrev pub sum_of : ℤ → Result Sum LineFault
-sum_of (pos n) = within (nat_le n 4294967295) (record { 0 = n })
-sum_of (negsuc n) = within (nat_le n 2147483647) (record { 0 = 4294967295 - n })
+sum_of (pos n) = if_in_range (nat_le n 4294967295) (record { 0 = n })
+sum_of (negsuc n) = if_in_range (nat_le n 2147483647) (record { 0 = 4294967295 - n })
 
 abbrev pub sum_at : List ℕ → Json → Result Sum LineFault
 sum_at name d = do
@@ -82,4 +82,4 @@ whole_at missing name d = whole_or missing (get name d)
 abbrev pub priority_at : Json → Result ℕ LineFault
 priority_at d = do
   n ← whole_at 3 (codes "priority") d
-  within (nat_le n 3) n
+  if_in_range (nat_le n 3) n

@@ -14,7 +14,7 @@ use Rattle.ps_lines.specs.declared.faults.LineFault.TheVariants.{BadJson, BadSha
 use Rattle.ps_lines.specs.declared.lines.Entry.{Entry}
 use Rattle.ps_lines.specs.declared.lines.Line.{Line}
 use Rattle.ps_lines.specs.declared.lines.Line.TheVariants.{Checkpoint, Diff, Data, Complete, Expires, Unknown}
-use Rattle.ps_lines.specs.Members.{◌>>=◌, or_fault, within, text_at, truth_at, list_at, decimal_at, id_at, sum_at, whole_of, whole_at, priority_at}
+use Rattle.ps_lines.specs.Members.{◌>>=◌, or_fault, if_in_range, text_at, truth_at, list_at, decimal_at, id_at, sum_at, whole_of, whole_at, priority_at}
 use Rattle.ps_lines.specs.Shapes.{lacks, has_null, is_checkpoint, is_diff, is_data}
 
 -- an upload's number; a missing one and null are none
@@ -25,53 +25,53 @@ upload_at d = if lacks (codes "write_checkpoint") d then Ok None
       Ok (Some n))
 
 -- what a checkpoint says of a bucket
-abbrev pub entry_of : Json → Result Entry LineFault
-entry_of d = do
+abbrev pub checkpoint_entry : Json → Result Entry LineFault
+checkpoint_entry d = do
   bucket ← text_at (codes "bucket") d
   sum ← sum_at (codes "checksum") d
   count ← whole_at 0 (codes "count") d
   priority ← priority_at d
   Ok (record { bucket = bucket; sum = sum; count = count; priority = priority })
 
-abbrev pub entries_of : Items → Result (List Entry) LineFault
-entries_of no_items = Ok []
-entries_of (item d ds) = do
-  entry ← entry_of d
-  entries ← entries_of ds
+abbrev pub checkpoint_entries : Items → Result (List Entry) LineFault
+checkpoint_entries no_items = Ok []
+checkpoint_entries (item d ds) = do
+  entry ← checkpoint_entry d
+  entries ← checkpoint_entries ds
   Ok (entry ∷ entries)
 
-abbrev pub text_of : Json → Result (List ℕ) LineFault
-text_of d = or_fault BadShape (as_str d)
+abbrev pub string_of : Json → Result (List ℕ) LineFault
+string_of d = or_fault BadShape (as_str d)
 
 abbrev pub texts_of : Items → Result (List (List ℕ)) LineFault
 texts_of no_items = Ok []
 texts_of (item d ds) = do
-  text ← text_of d
+  text ← string_of d
   texts ← texts_of ds
   Ok (text ∷ texts)
 
-abbrev pub key_of : Json → Result Key LineFault
-key_of d = do
+abbrev pub key_in : Json → Result Key LineFault
+key_in d = do
   kind ← text_at (codes "object_type") d
   id ← text_at (codes "object_id") d
   subkey ← text_at (codes "subkey") d
   Ok (record { kind = kind; id = id; subkey = subkey })
 
-abbrev pub put_of : OpId → Sum → Json → Result Op LineFault
-put_of id sum d = do
-  key ← key_of d
+abbrev pub put_in : OpId → Sum → Json → Result Op LineFault
+put_in id sum d = do
+  key ← key_in d
   content ← text_at (codes "data") d
   Ok (Put id key content sum)
 
 abbrev pub remove_of : OpId → Sum → Json → Result Op LineFault
 remove_of id sum d = do
-  key ← key_of d
+  key ← key_in d
   Ok (Remove id key sum)
 
 -- the operation of a kind; targets are not told, so a MOVE has its own id and a CLEAR none
 abbrev pub op_named : List ℕ → OpId → Sum → Json → Result Op LineFault
 op_named op id sum d =
-    if bytes_eq op (codes "PUT") then put_of id sum d
+    if bytes_eq op (codes "PUT") then put_in id sum d
     else if bytes_eq op (codes "REMOVE") then remove_of id sum d
     else if bytes_eq op (codes "MOVE") then Ok (Move id sum id)
     else if bytes_eq op (codes "CLEAR") then Ok (Clear id sum None)
@@ -84,11 +84,11 @@ op_of d = do
   sum ← sum_at (codes "checksum") d
   op_named op id sum d
 
-abbrev pub ops_of : Items → Result (List Op) LineFault
-ops_of no_items = Ok []
-ops_of (item d ds) = do
+abbrev pub ops_in : Items → Result (List Op) LineFault
+ops_in no_items = Ok []
+ops_in (item d ds) = do
   op ← op_of d
-  ops ← ops_of ds
+  ops ← ops_in ds
   Ok (op ∷ ops)
 
 -- each id is above the one before
@@ -105,7 +105,7 @@ checkpoint_of d = do
   last_op ← id_at (codes "last_op_id") d
   upload ← upload_at d
   list ← list_at (codes "buckets") d
-  buckets ← entries_of list
+  buckets ← checkpoint_entries list
   Ok (Checkpoint last_op upload buckets)
 
 abbrev pub diff_of : Json → Result Line LineFault
@@ -115,18 +115,18 @@ diff_of d = do
   removed_list ← list_at (codes "removed_buckets") d
   removed ← texts_of removed_list
   updated_list ← list_at (codes "updated_buckets") d
-  updated ← entries_of updated_list
+  updated ← checkpoint_entries updated_list
   Ok (Diff last_op upload removed updated)
 
-abbrev pub data_of : Json → Result Line LineFault
-data_of d = do
+abbrev pub data_line_of : Json → Result Line LineFault
+data_line_of d = do
   bucket ← text_at (codes "bucket") d
   after ← id_at (codes "after") d
   has_more ← truth_at (codes "has_more") d
   list ← list_at (codes "data") d
-  ops ← ops_of list
+  ops ← ops_in list
   next ← id_at (codes "next_after") d
-  within (leads after.0 ops next.0) (Data bucket after has_more ops next)
+  if_in_range (leads after.0 ops next.0) (Data bucket after has_more ops next)
 
 abbrev pub complete_of : Json → Result Line LineFault
 complete_of d = do
@@ -147,7 +147,7 @@ abbrev pub line_named : List ℕ → Json → Result Line LineFault
 line_named name d =
     if bytes_eq name (codes "checkpoint") then shaped (is_checkpoint d) (checkpoint_of d)
     else if bytes_eq name (codes "checkpoint_diff") then shaped (is_diff d) (diff_of d)
-    else if bytes_eq name (codes "data") then shaped (is_data d) (data_of d)
+    else if bytes_eq name (codes "data") then shaped (is_data d) (data_line_of d)
     else if bytes_eq name (codes "checkpoint_complete") then complete_of d
     else if bytes_eq name (codes "token_expires_in") then expires_of d
     else Ok Unknown

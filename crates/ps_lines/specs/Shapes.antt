@@ -38,12 +38,12 @@ is_list is_one (Some ds) = all_items is_one ds
 abbrev pub has_list : (Json → Bool) → List ℕ → Json → Bool
 has_list is_one name d = is_list is_one (option_and_then as_array (get name d))
 
-abbrev pub is_text : Json → Bool
-is_text d = is_some (as_str d)
+abbrev pub is_string : Json → Bool
+is_string d = is_some (as_str d)
 
 -- what a checkpoint says of a bucket
-abbrev pub is_entry : Json → Bool
-is_entry d = has_text (codes "bucket") d && has_number (codes "checksum") d
+abbrev pub has_entry_shape : Json → Bool
+has_entry_shape d = has_text (codes "bucket") d && has_number (codes "checksum") d
     && may_have_number (codes "count") d && may_have_number (codes "priority") d
 
 abbrev pub has_key : Json → Bool
@@ -63,11 +63,11 @@ is_op d = has_text (codes "op_id") d && has_number (codes "checksum") d && may_h
 
 abbrev pub is_checkpoint : Json → Bool
 is_checkpoint d = has_text (codes "last_op_id") d && may_have_text (codes "write_checkpoint") d
-    && has_list is_entry (codes "buckets") d
+    && has_list has_entry_shape (codes "buckets") d
 
 abbrev pub is_diff : Json → Bool
 is_diff d = has_text (codes "last_op_id") d && may_have_text (codes "write_checkpoint") d
-    && has_list is_text (codes "removed_buckets") d && has_list is_entry (codes "updated_buckets") d
+    && has_list is_string (codes "removed_buckets") d && has_list has_entry_shape (codes "updated_buckets") d
 
 abbrev pub is_data : Json → Bool
 is_data d = has_text (codes "bucket") d && has_text (codes "after") d && has_truth (codes "has_more") d

@@ -16,12 +16,12 @@ use Rattle.ps_lines.specs.declared.lines.Line.{Line}
 use Rattle.ps_lines.specs.declared.lines.Line.TheVariants.{Checkpoint, Diff, Data, Complete, Expires, Unknown}
 
 -- the object of named values
-abbrev pub members_of : List (List ℕ × Json) → Members
-members_of [] = no_members
-members_of (named ∷ more) = member named.0 named.1 (members_of more)
+abbrev pub named_members : List (List ℕ × Json) → Members
+named_members [] = no_members
+named_members (named ∷ more) = member named.0 named.1 (named_members more)
 
-abbrev pub object_of : List (List ℕ × Json) → Json
-object_of named = object (members_of named)
+abbrev pub object_with : List (List ℕ × Json) → Json
+object_with named = object (named_members named)
 
 -- a number as its decimal text
 abbrev pub decimal_json : ℕ → Json
@@ -31,7 +31,7 @@ abbrev pub list_json : {A : Type 0} → (A → Json) → List A → Json
 list_json f xs = array (items_of (map f xs))
 
 unfoldable pub entry_json : Entry → Json
-entry_json entry = object_of (
+entry_json entry = object_with (
     (codes "bucket", string entry.bucket)
     ∷ (codes "checksum", number (unsigned entry.sum.0))
     ∷ (codes "count", number (unsigned entry.count))
@@ -39,7 +39,7 @@ entry_json entry = object_of (
     ∷ [])
 
 abbrev pub put_json : OpId → Key → List ℕ → Sum → Json
-put_json id key content sum = object_of (
+put_json id key content sum = object_with (
     (codes "checksum", number (unsigned sum.0))
     ∷ (codes "data", string content)
     ∷ (codes "object_id", string key.id)
@@ -50,7 +50,7 @@ put_json id key content sum = object_of (
     ∷ [])
 
 abbrev pub remove_json : OpId → Key → Sum → Json
-remove_json id key sum = object_of (
+remove_json id key sum = object_with (
     (codes "checksum", number (unsigned sum.0))
     ∷ (codes "object_id", string key.id)
     ∷ (codes "object_type", string key.kind)
@@ -61,7 +61,7 @@ remove_json id key sum = object_of (
 
 -- a MOVE or a CLEAR, which speak of no row
 abbrev pub bare_json : List ℕ → OpId → Sum → Json
-bare_json op id sum = object_of (
+bare_json op id sum = object_with (
     (codes "checksum", number (unsigned sum.0))
     ∷ (codes "op", string op)
     ∷ (codes "op_id", decimal_json id.0)
@@ -80,20 +80,20 @@ upload_member None = []
 upload_member (Some n) = (codes "write_checkpoint", decimal_json n) ∷ []
 
 abbrev pub checkpoint_json : OpId → Option ℕ → List Entry → Json
-checkpoint_json last_op upload buckets = object_of (
+checkpoint_json last_op upload buckets = object_with (
     (codes "buckets", list_json entry_json buckets)
     ∷ (codes "last_op_id", decimal_json last_op.0)
     ∷ upload_member upload)
 
 abbrev pub diff_json : OpId → Option ℕ → List (List ℕ) → List Entry → Json
-diff_json last_op upload removed updated = object_of (
+diff_json last_op upload removed updated = object_with (
     (codes "last_op_id", decimal_json last_op.0)
     ∷ (codes "removed_buckets", list_json string removed)
     ∷ (codes "updated_buckets", list_json entry_json updated)
     ∷ upload_member upload)
 
 abbrev pub data_json : List ℕ → OpId → Bool → List Op → OpId → Json
-data_json bucket after has_more ops next = object_of (
+data_json bucket after has_more ops next = object_with (
     (codes "after", decimal_json after.0)
     ∷ (codes "bucket", string bucket)
     ∷ (codes "data", list_json op_json ops)
@@ -102,20 +102,20 @@ data_json bucket after has_more ops next = object_of (
     ∷ [])
 
 abbrev pub complete_json : OpId → Json
-complete_json last_op = object_of ((codes "last_op_id", decimal_json last_op.0) ∷ [])
+complete_json last_op = object_with ((codes "last_op_id", decimal_json last_op.0) ∷ [])
 
 -- a line is an object with a single member; one of a kind that is not known is never written
 abbrev pub line_json : Line → Json
-line_json (Checkpoint last_op upload buckets) = object_of ((codes "checkpoint", checkpoint_json last_op upload buckets) ∷ [])
-line_json (Diff last_op upload removed updated) = object_of ((codes "checkpoint_diff", diff_json last_op upload removed updated) ∷ [])
-line_json (Data bucket after has_more ops next) = object_of ((codes "data", data_json bucket after has_more ops next) ∷ [])
-line_json (Complete last_op) = object_of ((codes "checkpoint_complete", complete_json last_op) ∷ [])
-line_json (Expires seconds) = object_of ((codes "token_expires_in", number (unsigned seconds)) ∷ [])
-line_json Unknown = object_of []
+line_json (Checkpoint last_op upload buckets) = object_with ((codes "checkpoint", checkpoint_json last_op upload buckets) ∷ [])
+line_json (Diff last_op upload removed updated) = object_with ((codes "checkpoint_diff", diff_json last_op upload removed updated) ∷ [])
+line_json (Data bucket after has_more ops next) = object_with ((codes "data", data_json bucket after has_more ops next) ∷ [])
+line_json (Complete last_op) = object_with ((codes "checkpoint_complete", complete_json last_op) ∷ [])
+line_json (Expires seconds) = object_with ((codes "token_expires_in", number (unsigned seconds)) ∷ [])
+line_json Unknown = object_with []
 
 -- compact, with a closing line feed
-unfoldable pub text_of : Line → List ℕ
-text_of line = compact_text (line_json line) ++ codes "\n"
+unfoldable pub text_of_line : Line → List ℕ
+text_of_line line = compact_text (line_json line) ++ codes "\n"
 
 -- what may be written: a line of a known kind in which nothing stands that a reader refuses as a number
 abbrev pub IsWritable : Line → Type 0

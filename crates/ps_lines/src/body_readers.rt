@@ -12,13 +12,13 @@ ghost use Rattle.ps_data.specs.Numbers.{greatest};
 ghost use Rattle.ps_lines.specs.declared.bodies.StreamBody.{StreamBody as SomeBody};
 ghost use Rattle.ps_lines.specs.Members.{Reads};
 ghost use Rattle.ps_lines.specs.BodyGrammar.{IsBodyOf};
-ghost use Rattle.ps_lines.specs.Bodies.{last_ones, known_of, entries_known, positions_of, client_of, plain_text, parameters_of, shaped_body, body_of, IsParameters, IsBody};
+ghost use Rattle.ps_lines.specs.Bodies.{last_ones, known_of, entries_known, body_positions, client_of, plain_text, parameters_of, shaped_body, body_of, IsParameters, IsBody};
 
 use crate::body_shapes::is_body;
 use crate::members::{read_id, read_text};
 use crate::{Known, LineFault, StreamBody};
 use ps_data::{Items, Memory, Text};
-use ps_values::{decimals_read_back, plain, read_json};
+use ps_values::{plain, read_json};
 use serde_json::Value as Json;
 use std::alloc::Global;
 use std::collections::BTreeSet;
@@ -35,7 +35,7 @@ pub fn read_body(alloc: Global, bytes: &[u8]) -> Result<StreamBody, LineFault>
     ensures no_text { ¬ (IsUtf8 bytes.now) → result ≡ Err BadJson }
     ensures is_one { IfOk result IsBody }
 {
-    decimals_read_back();
+    ps_values::laws::decimals_read_back();
     read_whole_body(alloc, bytes)
 }
 
@@ -70,7 +70,7 @@ fn read_shaped(alloc: Global, json: &Json) -> Result<StreamBody, LineFault>
 }
 
 fn read_positions(alloc: Global, json: &Json) -> Result<Items<Known>, LineFault>
-    ensures exact { Reads result (positions_of (view json.now)) }
+    ensures exact { Reads result (body_positions (view json.now)) }
     ensures distinct { IfOk result (λ positions. IsDistinct bytes_eq (map (λ known. known.bucket) positions)) }
     ensures within { IfOk result (λ positions. All (λ known. known.after.0 ≤ greatest) positions) }
 {

@@ -7,7 +7,7 @@ ghost use Rattle.ps_lines.specs.Writing.{list_json};
 use crate::objects::Object;
 use crate::{Known, StreamBody};
 use ps_data::{Memory, Text};
-use ps_values::{decimals_read_back, plain_json_has_no_float, read_json};
+use ps_values::read_json;
 use serde_json::Value as Json;
 use std::alloc::Global;
 
@@ -18,8 +18,8 @@ pub fn write_body(alloc: Global, body: &StreamBody) -> Result<Vec<u8>, Memory>
     ensures value { IfOk result (λ bytes. bytes.items ≡ body_text body.now) }
     ensures read_again { IfOk result (λ bytes. body_of bytes.items ≡ Ok body.now) }
 {
-    decimals_read_back();
-    plain_json_has_no_float();
+    ps_values::laws::decimals_read_back();
+    ps_values::laws::plain_json_has_no_float();
     let json = body_json(alloc, body)?;
     let bytes = json.to_vec(alloc)?;
     Ok(bytes)

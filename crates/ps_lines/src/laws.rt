@@ -2,11 +2,9 @@
 
 ghost use Rattle.ps_lines.specs.Laws.{LinesReadCanBeWritten};
 
-use ps_values::decimals_read_back;
-
 /// A law: a line that was read can be written, unless it is of a kind that is not known here.
 pub fn lines_read_can_be_written()
     ensures { LinesReadCanBeWritten }
 {
-    decimals_read_back();
+    ps_values::laws::decimals_read_back();
 }

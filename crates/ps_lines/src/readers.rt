@@ -5,7 +5,7 @@ ghost use Rattle.serde_json.specs.View.{view, items_view, members_view};
 ghost use Rattle.ps_lines.specs.declared.lines.Line.{Line as SomeLine};
 ghost use Rattle.ps_lines.specs.Grammar.{IsLine};
 ghost use Rattle.ps_lines.specs.Members.{Reads};
-ghost use Rattle.ps_lines.specs.Reading.{upload_at, entry_of, entries_of, texts_of, key_of, put_of, op_named, op_of, ops_of, rises_from as rises_past, leads as leads_to, checkpoint_of, diff_of, data_of, expires_of, shaped, line_named, line_of_members, without_feed as cut_feed, line_of};
+ghost use Rattle.ps_lines.specs.Reading.{upload_at, checkpoint_entry, checkpoint_entries, texts_of, key_in, put_in, op_named, op_of, ops_in, rises_from as rises_past, leads as leads_to, checkpoint_of, diff_of, data_line_of, expires_of, shaped, line_named, line_of_members, without_feed as cut_feed, line_of};
 ghost use Rattle.ps_lines.specs.Shapes.{is_checkpoint as is_checkpoint_shape, is_diff as is_diff_shape, is_data as is_data_shape};
 
 use crate::members::{
@@ -16,7 +16,7 @@ use crate::{Entry, Line, LineFault};
 use ps_bucket_log::{Key, Op};
 use ps_checksum::Sum;
 use ps_data::{Items, OpId, Text};
-use ps_values::{decimals_read_back, read_json};
+use ps_values::read_json;
 use serde_json::{Map, Value as Json};
 use std::alloc::Global;
 
@@ -32,7 +32,7 @@ pub fn read_line(alloc: Global, bytes: &[u8]) -> Result<Line, LineFault>
     // What is no text is refused whatever memory there is.
     ensures no_text { ¬ (IsUtf8 (cut_feed bytes.now)) → result ≡ Err BadJson }
 {
-    decimals_read_back();
+    ps_values::laws::decimals_read_back();
     read_whole_line(alloc, bytes)
 }
 
@@ -126,7 +126,7 @@ fn read_shaped_diff(alloc: Global, json: &Json) -> Result<Line, LineFault>
 }
 
 fn read_shaped_data(alloc: Global, json: &Json) -> Result<Line, LineFault>
-    ensures { Reads result (shaped (is_data_shape (view json.now)) (data_of (view json.now))) }
+    ensures { Reads result (shaped (is_data_shape (view json.now)) (data_line_of (view json.now))) }
 {
     if !is_data(json) {
         return Err(LineFault::BadShape);
@@ -172,7 +172,7 @@ fn read_diff(alloc: Global, json: &Json) -> Result<Line, LineFault>
 }
 
 fn read_data(alloc: Global, json: &Json) -> Result<Line, LineFault>
-    ensures { Reads result (data_of (view json.now)) }
+    ensures { Reads result (data_line_of (view json.now)) }
 {
     let bucket = read_text(alloc, json, "bucket")?;
     let after = read_id(alloc, json, "after")?;
@@ -221,7 +221,7 @@ fn read_texts(alloc: Global, list: &[Json]) -> Result<Items<Text>, LineFault>
 }
 
 fn read_entries(alloc: Global, list: &[Json]) -> Result<Items<Entry>, LineFault>
-    ensures { Reads result (entries_of (items_view list.now)) }
+    ensures { Reads result (checkpoint_entries (items_view list.now)) }
 {
     let mut entries = Items::new(alloc);
     'entries: for json in list {
@@ -231,7 +231,7 @@ fn read_entries(alloc: Global, list: &[Json]) -> Result<Items<Entry>, LineFault>
 }
 
 fn read_entry(alloc: Global, json: &Json) -> Result<Entry, LineFault>
-    ensures { Reads result (entry_of (view json.now)) }
+    ensures { Reads result (checkpoint_entry (view json.now)) }
 {
     let bucket = read_text(alloc, json, "bucket")?;
     let sum = read_sum(json, "checksum")?;
@@ -246,7 +246,7 @@ fn read_entry(alloc: Global, json: &Json) -> Result<Entry, LineFault>
 }
 
 fn read_ops(alloc: Global, list: &[Json]) -> Result<Items<Op>, LineFault>
-    ensures { Reads result (ops_of (items_view list.now)) }
+    ensures { Reads result (ops_in (items_view list.now)) }
 {
     let mut ops = Items::new(alloc);
     'ops: for json in list {
@@ -295,7 +295,7 @@ fn read_op_named(alloc: Global, op: &str, id: OpId, sum: Sum, json: &Json) -> Re
 }
 
 fn read_put(alloc: Global, id: OpId, sum: Sum, json: &Json) -> Result<Op, LineFault>
-    ensures { Reads result (put_of id sum (view json.now)) }
+    ensures { Reads result (put_in id sum (view json.now)) }
 {
     let key = read_key(alloc, json)?;
     let content = read_text(alloc, json, "data")?;
@@ -308,7 +308,7 @@ fn read_put(alloc: Global, id: OpId, sum: Sum, json: &Json) -> Result<Op, LineFa
 }
 
 fn read_key(alloc: Global, json: &Json) -> Result<Key, LineFault>
-    ensures { Reads result (key_of (view json.now)) }
+    ensures { Reads result (key_in (view json.now)) }
 {
     let kind = read_text(alloc, json, "object_type")?;
     let id = read_text(alloc, json, "object_id")?;

@@ -2,7 +2,7 @@
 
 ghost use Rattle.std.specs.Prelude.{◌≡◌, Some};
 ghost use Rattle.serde_json.specs.View.{view, items_view};
-ghost use Rattle.ps_lines.specs.Shapes.{has_text as text_is_there, has_truth as truth_is_there, has_number as number_is_there, may_have_number as number_may_be_there, may_have_text as text_may_be_there, all_items, has_list, is_text, is_entry as is_entry_shape, has_key as key_is_there, is_op_of, is_op as is_op_shape, is_checkpoint as is_checkpoint_shape, is_diff as is_diff_shape, is_data as is_data_shape};
+ghost use Rattle.ps_lines.specs.Shapes.{has_text as text_is_there, has_truth as truth_is_there, has_number as number_is_there, may_have_number as number_may_be_there, may_have_text as text_may_be_there, all_items, has_list, is_string, has_entry_shape as is_entry_shape, has_key as key_is_there, is_op_of, is_op as is_op_shape, is_checkpoint as is_checkpoint_shape, is_diff as is_diff_shape, is_data as is_data_shape};
 
 use serde_json::Value as Json;
 
@@ -43,7 +43,7 @@ pub fn may_have_text(json: &Json, name: &str) -> bool
 }
 
 fn has_texts(json: &Json, name: &str) -> bool
-    ensures { result ≡ has_list is_text name.now (view json.now) }
+    ensures { result ≡ has_list is_string name.now (view json.now) }
 {
     match json.get(name).and_then(Json::as_array) {
         Some(list) => are_texts(list.as_slice()),
@@ -52,7 +52,7 @@ fn has_texts(json: &Json, name: &str) -> bool
 }
 
 fn are_texts(list: &[Json]) -> bool
-    ensures { result ≡ all_items is_text (items_view list.now) }
+    ensures { result ≡ all_items is_string (items_view list.now) }
 {
     'texts: for json in list {
         if !json.is_string() {

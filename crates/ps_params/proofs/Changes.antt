@@ -17,7 +17,7 @@ use Rattle.ps_rows.specs.Source.{Key, key_cmp, Version, Source, after_row, after
 use Rattle.ps_rows.specs.Keys.{keys_total, keys_exact, find-after_row, sorted-after_transactions}
 use Rattle.ps_definitions.specs.declared.definitions.Definition.{Definition}
 use Rattle.ps_queries.specs.Vectors.{SourceRow}
-use Rattle.ps_params.specs.Notes.{Note, counts_for, row_after, row_at}
+use Rattle.ps_params.specs.Notes.{Note, counts_for, row_after, noted_row}
 use Rattle.ps_definitions.specs.Tables.{is_read}
 use Rattle.ps_params.specs.Laws.{note_of_change, notes_of_transaction, notes_of, notes_read, row_of, rows_in, NotesAreTheSource, NotesReadAreTheSource}
 use Rattle.ps_data.proofs.Members.{Has, has_map, from_map, has_contains, contains_has}
@@ -159,7 +159,7 @@ pub notes_stand : NotesAreTheSource
 notes_stand definitions transactions position r read =
     let source : Source = source_at transactions position in
     let sorted : T (is_sorted key_cmp source) = sorted-after_transactions (filter (λ (t : Transaction). nat_le t.position.0 position) transactions) [] tt in
-    let same : columns_at (r.table, r.id) source ≡ row_at (notes_of transactions) r.table r.id position = transactions_after position (r.table, r.id) transactions [] in
+    let same : columns_at (r.table, r.id) source ≡ noted_row (notes_of transactions) r.table r.id position = transactions_after position (r.table, r.id) transactions [] in
     (λ h. sym same ∙ there_found source sorted r h, λ h. found_there source sorted r (same ∙ h))
 
 module _ (definitions : List Definition) (r : SourceRow) (read : is_read definitions r.table ≡ true) (position : ℕ) where
@@ -173,11 +173,11 @@ module _ (definitions : List Definition) (r : SourceRow) (read : is_read definit
           sym read ∙ ap (is_read definitions) (sym same) ∙ h
       go false e = refl
 
-  same_read : (notes : List Note) → row_at (filter (λ (n : Note). is_read definitions n.table) notes) r.table r.id position ≡ row_at notes r.table r.id position
+  same_read : (notes : List Note) → noted_row (filter (λ (n : Note). is_read definitions n.table) notes) r.table r.id position ≡ noted_row notes r.table r.id position
   same_read notes = after_those r.table r.id position (λ (n : Note). is_read definitions n.table) unread None notes
 
 pub notes_read_stand : NotesReadAreTheSource
 notes_read_stand definitions transactions position r read =
     let all = notes_stand definitions transactions position r read in
-    let same : row_at (notes_read definitions transactions) r.table r.id position ≡ row_at (notes_of transactions) r.table r.id position = same_read definitions r read position (notes_of transactions) in
+    let same : noted_row (notes_read definitions transactions) r.table r.id position ≡ noted_row (notes_of transactions) r.table r.id position = same_read definitions r read position (notes_of transactions) in
     (λ h. same ∙ all.0 h, λ h. all.1 (sym same ∙ h))

@@ -17,12 +17,12 @@ use Rattle.ps_definitions.specs.declared.definitions.Definition.{Definition}
 use Rattle.ps_queries.specs.Vectors.{SourceRow, asked_of, vector_values}
 use Rattle.ps_definitions.specs.Buckets.{bucket_name_of}
 use Rattle.ps_params.specs.declared.paths.Path.{Path}
-use Rattle.ps_params.specs.Notes.{Note, row_at}
-use Rattle.ps_params.specs.Kept.{row_under, rows_of, names_on, names_over}
-use Rattle.ps_params.specs.Accesses.{IsAccess, Covers, compared}
+use Rattle.ps_params.specs.Notes.{Note, noted_row}
+use Rattle.ps_params.specs.Kept.{row_under, standing_rows, names_on, names_over}
+use Rattle.ps_params.specs.Accesses.{IsAccess, Covers, compared_with}
 use Rattle.ps_params.specs.Places.{Spot, lies_by, lies_at, text_in, is_text}
 use Rattle.ps_params.specs.Spots.{spot_for, spots_for, lying, lying_at}
-use Rattle.ps_params.specs.Sets.{HaveSame}
+use Rattle.ps_params.specs.Sets.{HaveSameItems}
 use Rattle.ps_data.proofs.Members.{Has, any_has, has_any, has_left, has_right, has_cases, has_flat, has_filter, from_filter, contains_has}
 use Rattle.ps_params.proofs.Rows.{noted_for, has_filter_map, listed_stands, stands_listed, all_listed}
 use Rattle.ps_params.proofs.Sources.{any_flat, both_same}
@@ -52,22 +52,22 @@ module _ (law : IsSameOnEveryRow) (paths : List Path) (asker : Asker) (condition
   nowhere : Given
   nowhere = record { asker = asker; id = []; row = []; bucket = λ name. Null }
 
-  same_compared : (given : Given) → given.asker ≡ asker → given.bucket ≡ (λ name. Null) → compared given other listed ≡ compared (record { asker = asker; id = []; row = []; bucket = λ name. Null }) other listed
+  same_compared : (given : Given) → given.asker ≡ asker → given.bucket ≡ (λ name. Null) → compared_with given other listed ≡ compared_with (record { asker = asker; id = []; row = []; bucket = λ name. Null }) other listed
   same_compared given a b = ap (λ v. if listed then values_in (array_of v) else v ∷ [])
       (law other given [] [] access.plain ∙ (λ i. value_of (record { asker = a i; id = []; row = []; bucket = b i }) other))
 
-  pub path_covers : Covers paths asker (Some condition) table (spots_for number (compared (record { asker = asker; id = []; row = []; bucket = λ name. Null }) other listed))
+  pub path_covers : Covers paths asker (Some condition) table (spots_for number (compared_with (record { asker = asker; id = []; row = []; bucket = λ name. Null }) other listed))
   path_covers note columns in_table row held =
       let given : Given = asked_of asker (row_under note columns) in
       let one = access.found given held in
       let value : Value = column_value note.id columns column in
-      let among : Has (compared (record { asker = asker; id = []; row = []; bucket = λ name. Null }) other listed) value =
-      subst (λ (vs : List Value). Has vs value) (same_compared given refl refl) (contains_has (compared given other listed) value one.among) in
+      let among : Has (compared_with (record { asker = asker; id = []; row = []; bucket = λ name. Null }) other listed) value =
+      subst (λ (vs : List Value). Has vs value) (same_compared given refl refl) (contains_has (compared_with given other listed) value one.among) in
       let text = text_there value one.there in
-      let here : Has (spots_for number (compared (record { asker = asker; id = []; row = []; bucket = λ name. Null }) other listed)) (number, text.0) =
-      has_filter_map (spot_for number) (compared (record { asker = asker; id = []; row = []; bucket = λ name. Null }) other listed) value (number, text.0) among
+      let here : Has (spots_for number (compared_with (record { asker = asker; id = []; row = []; bucket = λ name. Null }) other listed)) (number, text.0) =
+      has_filter_map (spot_for number) (compared_with (record { asker = asker; id = []; row = []; bucket = λ name. Null }) other listed) value (number, text.0) among
       (ap (option_map (λ (t : List ℕ). (number, t))) text.1) in
-      has_any (λ (s : Spot). lies_at paths s.0 s.1 note) (spots_for number (compared (record { asker = asker; id = []; row = []; bucket = λ name. Null }) other listed)) (number, text.0) here
+      has_any (λ (s : Spot). lies_at paths s.0 s.1 note) (spots_for number (compared_with (record { asker = asker; id = []; row = []; bucket = λ name. Null }) other listed)) (number, text.0) here
       (ap (lies_by text.0 note) is
       ∙ ap (λ b. is_text text.0 (if b then text_in column note else None)) ((bytes_eq-Decides note.table table).1 in_table)
       ∙ ap (is_text text.0) (text_of_row column note columns row ∙ text.1)
@@ -104,7 +104,7 @@ module _ (definition : Definition) (asker : Asker) (query : ParameterQuery) wher
     of_table r = bytes_eq r.table table
 
     -- a row that stands and meets the condition is found
-    row_lies : (r : SourceRow) → r.table ≡ table → row_at all r.table r.id upto ≡ Some r.row → holds (asked_of asker r) query.condition ≡ true → Has (rows_of all upto found) r
+    row_lies : (r : SourceRow) → r.table ≡ table → noted_row all r.table r.id upto ≡ Some r.row → holds (asked_of asker r) query.condition ≡ true → Has (standing_rows all upto found) r
     row_lies r in_table stands held = elim (noted_for r.table r.id upto None all r.row stands) [
       | inl e ↦ absurd (let n : None ≡ Some r.row = e in cc)
       | inr m ↦
@@ -119,19 +119,19 @@ module _ (definition : Definition) (asker : Asker) (query : ParameterQuery) wher
           stands_listed all upto found r m.0 listed m.2 m.3 stands
     ]
 
-    pub found_all : HaveSame (names_over definition asker query table (rows_of all upto found)) (names_over definition asker query table (rows_of all upto all))
+    pub found_all : HaveSameItems (names_over definition asker query table (standing_rows all upto found)) (names_over definition asker query table (standing_rows all upto all))
     found_all test =
-        any_flat test (names_on definition asker query) (filter (λ (r : SourceRow). bytes_eq r.table table) (rows_of all upto found))
-        ∙ both_same (list_any p (filter q (rows_of all upto found))) (list_any p (filter q (rows_of all upto all)))
-        (λ h. let a = any_has p (filter q (rows_of all upto found)) h in
-        let b = from_filter q (rows_of all upto found) a.0 a.1 in
-        has_any p (filter q (rows_of all upto all)) a.0 (has_filter q (rows_of all upto all) a.0 (all_listed all upto a.0 (listed_stands all upto found a.0 b.0)) b.1) a.2)
-        (λ h. let a = any_has p (filter q (rows_of all upto all)) h in
-        let b = from_filter q (rows_of all upto all) a.0 a.1 in
-        has_any p (filter q (rows_of all upto found)) a.0
-        (has_filter q (rows_of all upto found) a.0
+        any_flat test (names_on definition asker query) (filter (λ (r : SourceRow). bytes_eq r.table table) (standing_rows all upto found))
+        ∙ both_same (list_any p (filter q (standing_rows all upto found))) (list_any p (filter q (standing_rows all upto all)))
+        (λ h. let a = any_has p (filter q (standing_rows all upto found)) h in
+        let b = from_filter q (standing_rows all upto found) a.0 a.1 in
+        has_any p (filter q (standing_rows all upto all)) a.0 (has_filter q (standing_rows all upto all) a.0 (all_listed all upto a.0 (listed_stands all upto found a.0 b.0)) b.1) a.2)
+        (λ h. let a = any_has p (filter q (standing_rows all upto all)) h in
+        let b = from_filter q (standing_rows all upto all) a.0 a.1 in
+        has_any p (filter q (standing_rows all upto found)) a.0
+        (has_filter q (standing_rows all upto found) a.0
         (row_lies a.0 ((bytes_eq-Decides a.0.table table).0 b.1) (listed_stands all upto all a.0 b.0) (names_held test a.0 a.2)) b.1) a.2)
-        ∙ sym (any_flat test (names_on definition asker query) (filter (λ (r : SourceRow). bytes_eq r.table table) (rows_of all upto all)))
+        ∙ sym (any_flat test (names_on definition asker query) (filter (λ (r : SourceRow). bytes_eq r.table table) (standing_rows all upto all)))
       where
         p : SourceRow → Bool
         p r = list_any test (names_on definition asker query r)

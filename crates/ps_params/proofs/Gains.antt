@@ -6,7 +6,7 @@ use Rattle.std.specs.BTreeSet.{insert_key}
 use Rattle.std.specs.Cmp.Lexicographic.{slice_cmp}
 use Rattle.std.specs.Ordering.{match_ordering, nat_cmp}
 use Rattle.std.proofs.lemmas.Map.Lookups.{exact_bytes}
-use Rattle.ps_params.specs.Sets.{Gains}
+use Rattle.ps_params.specs.Sets.{GainsItems}
 
 pub or_false : (a : Bool) → (a || false) ≡ a
 or_false true = refl
@@ -32,7 +32,7 @@ any_append p [] ys = refl
 any_append p (x ∷ xs) ys = ap (λ b. p x || b) (any_append p xs ys) ∙ sym (or_regrouped (p x) (list_any p xs) (list_any p ys))
 
 -- a name among those of a set
-pub name_gained : (k : List ℕ) (ks : List (List ℕ)) → Gains ks (insert_key (slice_cmp nat_cmp) ks k) (k ∷ [])
+pub name_gained : (k : List ℕ) (ks : List (List ℕ)) → GainsItems ks (insert_key (slice_cmp nat_cmp) ks k) (k ∷ [])
 name_gained k [] test = refl
 name_gained k (x ∷ xs) test =
     elim (slice_cmp nat_cmp k x) as (λ o. slice_cmp nat_cmp k x ≡ o → list_any test (match_ordering o (k ∷ x ∷ xs) (x ∷ xs) (x ∷ insert_key (slice_cmp nat_cmp) xs k)) ≡ ((test x || list_any test xs) || (test k || false))) [
@@ -44,14 +44,14 @@ name_gained k (x ∷ xs) test =
     ] refl
 
 -- what is gained in one step, of what is left to gain
-pub gain_step : {A : Type 0} (old new more whole rest : List A) → Gains old new more → whole ≡ more ++ rest → (test : A → Bool) → (list_any test new || list_any test rest) ≡ (list_any test old || list_any test whole)
+pub gain_step : {A : Type 0} (old new more whole rest : List A) → GainsItems old new more → whole ≡ more ++ rest → (test : A → Bool) → (list_any test new || list_any test rest) ≡ (list_any test old || list_any test whole)
 gain_step old new more whole rest gains is test =
     ap (λ b. b || list_any test rest) (gains test)
     ∙ or_regrouped (list_any test old) (list_any test more) (list_any test rest)
     ∙ ap (λ b. list_any test old || b) (sym (ap (list_any test) is ∙ any_append test more rest))
 
 -- one gain after another
-pub gain_both : {A : Type 0} (old mid new xs ys zs : List A) → Gains old mid xs → Gains mid new ys → zs ≡ xs ++ ys → Gains old new zs
+pub gain_both : {A : Type 0} (old mid new xs ys zs : List A) → GainsItems old mid xs → GainsItems mid new ys → zs ≡ xs ++ ys → GainsItems old new zs
 gain_both old mid new xs ys zs f g is test =
     g test
     ∙ ap (λ b. b || list_any test ys) (f test)

@@ -3,7 +3,7 @@ use Rattle.std.proofs.Common.{◌≡◌, ℕ, Bool, true, false, List, [], ◌�
 use Rattle.std.specs.Prelude.{◌≢◌, if◌then◌else◌, IfSome}
 use Rattle.std.proofs.lemmas.Bool.{or_cases}
 use Rattle.serde_json.specs.Data.{Items, no_items, item}
-use Rattle.ps_data.specs.Conversions.{value_of as json_value}
+use Rattle.ps_data.specs.Conversions.{json_value as json_value}
 use Rattle.ps_data.specs.declared.values.Value.{Value}
 use Rattle.ps_data.specs.declared.values.Value.TheVariants.{Null, Int, Text}
 use Rattle.ps_data.specs.declared.values.Truth.{Truth}

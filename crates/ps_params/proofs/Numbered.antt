@@ -9,7 +9,7 @@ use Rattle.std.proofs.lemmas.Map.Text.{is_eq-slice_cmp}
 use Rattle.std.proofs.lemmas.Slice.Eq.{bytes_eq-Decides}
 use Rattle.ps_params.specs.declared.paths.Path.{Path}
 use Rattle.ps_params.specs.Notes.{Note}
-use Rattle.ps_params.specs.Numbers.{numbers_from, numbers_of, numbers_at}
+use Rattle.ps_params.specs.Numbers.{numbers_from, path_numbers, numbers_at}
 use Rattle.ps_params.specs.Places.{lies_by, lies_at, is_text, text_on, text_by}
 use Rattle.ps_params.proofs.Finding.{put_behind}
 
@@ -130,15 +130,15 @@ of_table note u path h = (bytes_eq-Decides path.table note.table).1 (sym ((bytes
     go false h = absurd (let n : false ≡ true = h in cc)
 
 module _ (paths : List Path) (note : Note) (m : ℕ) (u : List ℕ) (place : ℕ) where
-  pub lies_by_number : (b : Bool) → lies_at paths m u note ≡ b → flat_map (here b place m) (numbers_of note.table paths) ≡ (if b then place ∷ [] else [])
-  lies_by_number false e = none_here place m (numbers_of note.table paths)
+  pub lies_by_number : (b : Bool) → lies_at paths m u note ≡ b → flat_map (here b place m) (path_numbers note.table paths) ≡ (if b then place ∷ [] else [])
+  lies_by_number false e = none_here place m (path_numbers note.table paths)
   lies_by_number true e = got (slice_get paths m) refl e
     where
-      got : (o : _) → slice_get paths m ≡ o → lies_by u note o ≡ true → flat_map (here true place m) (numbers_of note.table paths) ≡ place ∷ []
+      got : (o : _) → slice_get paths m ≡ o → lies_by u note o ≡ true → flat_map (here true place m) (path_numbers note.table paths) ≡ place ∷ []
       got None is h = absurd (let n : false ≡ true = h in cc)
       got (Some path) is h = once note.table place m 0 m paths path (omega arith) is (of_table note u path h)
 
-  pub all_numbers : (ns old new : List ℕ) → ns ≡ numbers_of note.table paths → new ≡ old ++ flat_map (here (lies_at paths m u note) place m) ns
+  pub all_numbers : (ns old new : List ℕ) → ns ≡ path_numbers note.table paths → new ≡ old ++ flat_map (here (lies_at paths m u note) place m) ns
       → new ≡ (if lies_at paths m u note then old ++ place ∷ [] else old)
   all_numbers ns old new same is =
       is ∙ ap (λ (l : List ℕ). old ++ flat_map (here (lies_at paths m u note) place m) l) same

@@ -14,16 +14,16 @@ use Rattle.ps_data.proofs.Rising.{same_risen, sorted_rises}
 use Rattle.ps_definitions.specs.Buckets.{in_order}
 use Rattle.ps_definitions.proofs.NamesInOrder.{name_cmp, in_order_rises, has_in_order, from_in_order}
 use Rattle.ps_params.specs.Names.{IsTold, AreTold}
-use Rattle.ps_params.specs.Sets.{HaveSame}
+use Rattle.ps_params.specs.Sets.{HaveSameItems}
 
 -- what passes the same tests has the same names
-has_same : (xs ys : List (List ℕ)) → HaveSame xs ys → (q : List ℕ) → Has xs q → Has ys q
+has_same : (xs ys : List (List ℕ)) → HaveSameItems xs ys → (q : List ℕ) → Has xs q → Has ys q
 has_same xs ys h q i =
     let there : list_any (bytes_eq q) xs ≡ true = has_any (bytes_eq q) xs q i ((bytes_eq-Decides q q).1 refl) in
     let r = any_has (bytes_eq q) ys (sym (h (bytes_eq q)) ∙ there) in
     subst (λ z. Has ys z) (sym ((bytes_eq-Decides q r.0).0 r.2)) r.1
 
-pub ordered_is : (keys names : List (List ℕ)) → IsStrictlySortedBy (slice_cmp nat_cmp) keys → HaveSame keys names → keys ≡ in_order names
+pub ordered_is : (keys names : List (List ℕ)) → IsStrictlySortedBy (slice_cmp nat_cmp) keys → HaveSameItems keys names → keys ≡ in_order names
 ordered_is keys names sorted same = same_risen name_cmp nat_list_cmp_total exact_bytes keys (in_order names) (sorted_rises name_cmp keys sorted) (in_order_rises names)
     (λ q i. has_in_order names q (has_same keys names same q i))
     (λ q i. has_same names keys (λ test. sym (same test)) q (from_in_order names q i))

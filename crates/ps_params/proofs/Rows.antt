@@ -11,8 +11,8 @@ use Rattle.ps_queries.specs.declared.queries.ParameterQuery.{ParameterQuery}
 use Rattle.ps_definitions.specs.declared.definitions.Definition.{Definition}
 use Rattle.ps_queries.specs.Vectors.{SourceRow, at_row}
 use Rattle.ps_definitions.specs.Vectors.{rows_read}
-use Rattle.ps_params.specs.Notes.{Note, counts_for, row_after, row_at}
-use Rattle.ps_params.specs.Kept.{row_under, standing, rows_of, names_on, names_over, query_names}
+use Rattle.ps_params.specs.Notes.{Note, counts_for, row_after, noted_row}
+use Rattle.ps_params.specs.Kept.{row_under, standing, standing_rows, names_on, names_over, query_names}
 use Rattle.ps_data.proofs.Members.{Has}
 
 pub next_is : {A : Type 0} (xs : List A) (i : ℕ) (x : A) → i < length xs → x ≡ get_or xs i x → drop i xs ≡ x ∷ drop (i + 1) xs
@@ -30,27 +30,27 @@ module _ (definition : Definition) (asker : Asker) (query : ParameterQuery) wher
   -- the row of one note more, of the table or of another
   module _ (table : List ℕ) (all : List Note) (upto : ℕ) where
     pub row_taken : (note : Note) (notes : List Note) → bytes_eq note.table table ≡ true
-        → names_over definition asker query table (rows_of all upto (note ∷ notes)) ≡ flat_map (names_on definition asker query) (rows_of all upto (note ∷ [])) ++ names_over definition asker query table (rows_of all upto notes)
-    row_taken note notes here = go (row_at all note.table note.id upto)
+        → names_over definition asker query table (standing_rows all upto (note ∷ notes)) ≡ flat_map (names_on definition asker query) (standing_rows all upto (note ∷ [])) ++ names_over definition asker query table (standing_rows all upto notes)
+    row_taken note notes here = go (noted_row all note.table note.id upto)
       where
-        go : (o : Option (List Column)) → names_over definition asker query table (cons_option (option_map (row_under note) o) (rows_of all upto notes))
-            ≡ flat_map (names_on definition asker query) (cons_option (option_map (row_under note) o) []) ++ names_over definition asker query table (rows_of all upto notes)
+        go : (o : Option (List Column)) → names_over definition asker query table (cons_option (option_map (row_under note) o) (standing_rows all upto notes))
+            ≡ flat_map (names_on definition asker query) (cons_option (option_map (row_under note) o) []) ++ names_over definition asker query table (standing_rows all upto notes)
         go None = refl
         go (Some columns) =
             let row : SourceRow = row_under note columns in
-            let rest : List SourceRow = filter (λ (r : SourceRow). bytes_eq r.table table) (rows_of all upto notes) in
+            let rest : List SourceRow = filter (λ (r : SourceRow). bytes_eq r.table table) (standing_rows all upto notes) in
             ap (λ b. flat_map (names_on definition asker query) (cond b (row ∷ rest) rest)) here
             ∙ ap (λ (names : List (List ℕ)). names ++ flat_map (names_on definition asker query) rest) (sym (append-nil (names_on definition asker query row)))
 
     pub row_passed : (note : Note) (notes : List Note) → bytes_eq note.table table ≡ false
-        → names_over definition asker query table (rows_of all upto (note ∷ notes)) ≡ names_over definition asker query table (rows_of all upto notes)
-    row_passed note notes here = go (row_at all note.table note.id upto)
+        → names_over definition asker query table (standing_rows all upto (note ∷ notes)) ≡ names_over definition asker query table (standing_rows all upto notes)
+    row_passed note notes here = go (noted_row all note.table note.id upto)
       where
-        go : (o : Option (List Column)) → names_over definition asker query table (cons_option (option_map (row_under note) o) (rows_of all upto notes)) ≡ names_over definition asker query table (rows_of all upto notes)
+        go : (o : Option (List Column)) → names_over definition asker query table (cons_option (option_map (row_under note) o) (standing_rows all upto notes)) ≡ names_over definition asker query table (standing_rows all upto notes)
         go None = refl
         go (Some columns) =
             let row : SourceRow = row_under note columns in
-            let rest : List SourceRow = filter (λ (r : SourceRow). bytes_eq r.table table) (rows_of all upto notes) in
+            let rest : List SourceRow = filter (λ (r : SourceRow). bytes_eq r.table table) (standing_rows all upto notes) in
             ap (λ b. flat_map (names_on definition asker query) (cond b (row ∷ rest) rest)) here
 
 -- ---- more notes
@@ -76,11 +76,11 @@ append_flat f [] ys = refl
 append_flat f (x ∷ xs) ys = ap (λ zs. f x ++ zs) (append_flat f xs ys) ∙ sym (append_assoc (f x) (flat_map f xs) (flat_map f ys))
 
 pub names_append : (definition : Definition) (asker : Asker) (query : ParameterQuery) (table : List ℕ) (all : List Note) (upto : ℕ) (xs ys : List Note)
-    → names_over definition asker query table (rows_of all upto (xs ++ ys)) ≡ names_over definition asker query table (rows_of all upto xs) ++ names_over definition asker query table (rows_of all upto ys)
+    → names_over definition asker query table (standing_rows all upto (xs ++ ys)) ≡ names_over definition asker query table (standing_rows all upto xs) ++ names_over definition asker query table (standing_rows all upto ys)
 names_append definition asker query table all upto xs ys =
     ap (names_over definition asker query table) (append_mapped (standing all upto) xs ys)
-    ∙ ap (flat_map (names_on definition asker query)) (append_filtered (λ (r : SourceRow). bytes_eq r.table table) (rows_of all upto xs) (rows_of all upto ys))
-    ∙ append_flat (names_on definition asker query) (filter (λ (r : SourceRow). bytes_eq r.table table) (rows_of all upto xs)) (filter (λ (r : SourceRow). bytes_eq r.table table) (rows_of all upto ys))
+    ∙ ap (flat_map (names_on definition asker query)) (append_filtered (λ (r : SourceRow). bytes_eq r.table table) (standing_rows all upto xs) (standing_rows all upto ys))
+    ∙ append_flat (names_on definition asker query) (filter (λ (r : SourceRow). bytes_eq r.table table) (standing_rows all upto xs)) (filter (λ (r : SourceRow). bytes_eq r.table table) (standing_rows all upto ys))
 
 -- ---- which rows stand
 
@@ -123,25 +123,25 @@ module _ {X Y : Type 0} (f : X → Option Y) where
 
 module _ (all : List Note) (upto : ℕ) where
   -- what is listed stands
-  pub listed_stands : (notes : List Note) (r : SourceRow) → Has (rows_of all upto notes) r → row_at all r.table r.id upto ≡ Some r.row
-  listed_stands notes r h = go (row_at all f.0.table f.0.id upto) refl f.2
+  pub listed_stands : (notes : List Note) (r : SourceRow) → Has (standing_rows all upto notes) r → noted_row all r.table r.id upto ≡ Some r.row
+  listed_stands notes r h = go (noted_row all f.0.table f.0.id upto) refl f.2
     where
       f : (note : Note) × Has notes note × (standing all upto note ≡ Some r)
       f = from_filter_map (standing all upto) notes r h
 
-      go : (o : Option (List Column)) → row_at all f.0.table f.0.id upto ≡ o → option_map (row_under f.0) o ≡ Some r → row_at all r.table r.id upto ≡ Some r.row
+      go : (o : Option (List Column)) → noted_row all f.0.table f.0.id upto ≡ o → option_map (row_under f.0) o ≡ Some r → noted_row all r.table r.id upto ≡ Some r.row
       go None k e = absurd (cc)
       go (Some columns) k e =
           let is : row_under f.0 columns ≡ r = cc in
-          subst (λ (z : SourceRow). row_at all z.table z.id upto ≡ Some z.row) is k
+          subst (λ (z : SourceRow). noted_row all z.table z.id upto ≡ Some z.row) is k
 
   -- and where a note of it is among them, what stands is listed
-  pub stands_listed : (notes : List Note) (r : SourceRow) (note : Note) → Has notes note → note.table ≡ r.table → note.id ≡ r.id → row_at all r.table r.id upto ≡ Some r.row → Has (rows_of all upto notes) r
+  pub stands_listed : (notes : List Note) (r : SourceRow) (note : Note) → Has notes note → note.table ≡ r.table → note.id ≡ r.id → noted_row all r.table r.id upto ≡ Some r.row → Has (standing_rows all upto notes) r
   stands_listed notes r note h table id stands =
-      let at : row_at all note.table note.id upto ≡ Some r.row = ap (λ t. row_at all t note.id upto) table ∙ ap (λ i. row_at all r.table i upto) id ∙ stands in
+      let at : noted_row all note.table note.id upto ≡ Some r.row = ap (λ t. noted_row all t note.id upto) table ∙ ap (λ i. noted_row all r.table i upto) id ∙ stands in
       has_filter_map (standing all upto) notes note r h (ap (option_map (row_under note)) at ∙ (λ i. Some (record { table = table i; id = id i; row = r.row })))
 
-  pub all_listed : (r : SourceRow) → row_at all r.table r.id upto ≡ Some r.row → Has (rows_of all upto all) r
+  pub all_listed : (r : SourceRow) → noted_row all r.table r.id upto ≡ Some r.row → Has (standing_rows all upto all) r
   all_listed r stands = elim (noted_for r.table r.id upto None all r.row stands) [
     | inl e ↦ absurd (let n : None ≡ Some r.row = e in cc)
     | inr m ↦ stands_listed all r m.0 m.1 m.2 m.3 stands

@@ -6,7 +6,7 @@ use Rattle.std.proofs.lemmas.List.{take_more}
 use Rattle.std.proofs.lemmas.List.Elements.{filter_map-append}
 use Rattle.ps_data.specs.declared.columns.Column.{Column}
 use Rattle.ps_params.specs.declared.paths.Path.{Path}
-use Rattle.ps_params.specs.Notes.{Note, counts_for, row_after, row_at}
+use Rattle.ps_params.specs.Notes.{Note, counts_for, row_after, noted_row}
 use Rattle.ps_params.specs.Places.{places_from, notes_at, lies_by, lies_at, is_text}
 
 -- ---- along the notes
@@ -28,23 +28,23 @@ module _ (table id : List ℕ) (upto : ℕ) where
 
   module _ (notes : List Note) (places : List ℕ) (i : ℕ) (within : i < length places) where
     -- the notes at one place more
-    one_more : row_at (notes_at notes (take (i + 1) places)) table id upto ≡ row_after table id upto (row_at (notes_at notes (take i places)) table id upto) (notes_at notes (get_or places i 0 ∷ []))
-    one_more = ap (λ (ps : List ℕ). row_at (notes_at notes ps) table id upto) (take_more places i 0 within)
-        ∙ ap (λ (ns : List Note). row_at ns table id upto) (filter_map-append (slice_get notes) (take i places) (get_or places i 0 ∷ []))
+    one_more : noted_row (notes_at notes (take (i + 1) places)) table id upto ≡ row_after table id upto (noted_row (notes_at notes (take i places)) table id upto) (notes_at notes (get_or places i 0 ∷ []))
+    one_more = ap (λ (ps : List ℕ). noted_row (notes_at notes ps) table id upto) (take_more places i 0 within)
+        ∙ ap (λ (ns : List Note). noted_row ns table id upto) (filter_map-append (slice_get notes) (take i places) (get_or places i 0 ∷ []))
         ∙ after_both None (notes_at notes (take i places)) (notes_at notes (get_or places i 0 ∷ []))
 
-    pub place_empty : slice_get notes (get_or places i 0) ≡ None → row_at (notes_at notes (take (i + 1) places)) table id upto ≡ row_at (notes_at notes (take i places)) table id upto
-    place_empty none = one_more ∙ ap (λ (o : Option Note). row_after table id upto (row_at (notes_at notes (take i places)) table id upto) (cons_option o [])) none
+    pub place_empty : slice_get notes (get_or places i 0) ≡ None → noted_row (notes_at notes (take (i + 1) places)) table id upto ≡ noted_row (notes_at notes (take i places)) table id upto
+    place_empty none = one_more ∙ ap (λ (o : Option Note). row_after table id upto (noted_row (notes_at notes (take i places)) table id upto) (cons_option o [])) none
 
     module _ (n : Note) (some : slice_get notes (get_or places i 0) ≡ Some n) where
-      by_note : row_at (notes_at notes (take (i + 1) places)) table id upto ≡ (if counts_for table id upto n then n.row else row_at (notes_at notes (take i places)) table id upto)
-      by_note = one_more ∙ ap (λ (o : Option Note). row_after table id upto (row_at (notes_at notes (take i places)) table id upto) (cons_option o [])) some
+      by_note : noted_row (notes_at notes (take (i + 1) places)) table id upto ≡ (if counts_for table id upto n then n.row else noted_row (notes_at notes (take i places)) table id upto)
+      by_note = one_more ∙ ap (λ (o : Option Note). row_after table id upto (noted_row (notes_at notes (take i places)) table id upto) (cons_option o [])) some
 
-      pub place_passed : counts_for table id upto n ≡ false → row_at (notes_at notes (take (i + 1) places)) table id upto ≡ row_at (notes_at notes (take i places)) table id upto
-      place_passed h = by_note ∙ ap (λ b. if b then n.row else row_at (notes_at notes (take i places)) table id upto) h
+      pub place_passed : counts_for table id upto n ≡ false → noted_row (notes_at notes (take (i + 1) places)) table id upto ≡ noted_row (notes_at notes (take i places)) table id upto
+      place_passed h = by_note ∙ ap (λ b. if b then n.row else noted_row (notes_at notes (take i places)) table id upto) h
 
-      pub place_found : counts_for table id upto n ≡ true → row_at (notes_at notes (take (i + 1) places)) table id upto ≡ n.row
-      place_found h = by_note ∙ ap (λ b. if b then n.row else row_at (notes_at notes (take i places)) table id upto) h
+      pub place_found : counts_for table id upto n ≡ true → noted_row (notes_at notes (take (i + 1) places)) table id upto ≡ n.row
+      place_found h = by_note ∙ ap (λ b. if b then n.row else noted_row (notes_at notes (take i places)) table id upto) h
 
 -- ---- the notes at the places of those that pass a test
 
@@ -89,9 +89,9 @@ module _ (paths : List Path) (number : ℕ) (table id : List ℕ) (is : slice_ge
       go true e = e
       go false e = refl
 
-  pub row_found : (upto : ℕ) (all : List Note) (count : ℕ) → row_at (notes_at all (places_from (lies_at paths number id) 0 (take count all))) table id upto ≡ row_at (take count all) table id upto
+  pub row_found : (upto : ℕ) (all : List Note) (count : ℕ) → noted_row (notes_at all (places_from (lies_at paths number id) 0 (take count all))) table id upto ≡ noted_row (take count all) table id upto
   row_found upto all count =
-      ap (λ (ns : List Note). row_at ns table id upto) (first_found (lies_at paths number id) all count)
+      ap (λ (ns : List Note). noted_row ns table id upto) (first_found (lies_at paths number id) all count)
       ∙ after_those table id upto (lies_at paths number id) (not_counted upto) None (take count all)
 
 pub both_parts : {X : Type 0} (k : ℕ) (xs : List X) → take k xs ++ drop k xs ≡ xs

@@ -17,8 +17,8 @@ use Rattle.ps_params.specs.Kept.{row_under}
 use Rattle.ps_params.specs.Places.{Spot, lies_at}
 
 -- what a column is compared with: a value, or the elements of an array
-abbrev pub compared : Given → Expr → Bool → List Value
-compared given other listed = if listed then values_in (array_of (value_of given other)) else value_of given other ∷ []
+abbrev pub compared_with : Given → Expr → Bool → List Value
+compared_with given other listed = if listed then values_in (array_of (value_of given other)) else value_of given other ∷ []
 
 -- a column's value is there, and it is one of some values
 pub record IsOneOf (value : Value) (values : List Value) : Type 0 where
@@ -28,7 +28,7 @@ pub record IsOneOf (value : Value) (values : List Value) : Type 0 where
 -- where a condition holds, a column's value is one of those that it is compared with, and these go by no row
 pub record IsAccess (condition : Expr) (column : List ℕ) (other : Expr) (listed : Bool) : Type 0 where
   pub plain : speaks subjects.Row other ≡ false
-  pub found : (given : Given) → is_true (truth_of (value_of given condition)) ≡ true → IsOneOf (column_value given.id given.row column) (compared given other listed)
+  pub found : (given : Given) → is_true (truth_of (value_of given condition)) ≡ true → IsOneOf (column_value given.id given.row column) (compared_with given other listed)
 
 -- an expression is a column, and another speaks of no row
 pub record IsColumnWith (expr : Expr) (column : Expr) (other : Expr) : Type 0 where

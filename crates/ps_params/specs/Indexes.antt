@@ -4,7 +4,7 @@ use Rattle.ps_definitions.specs.declared.definitions.Definition.{Definition}
 use Rattle.ps_definitions.specs.RuleSets.{RuleSet}
 use Rattle.ps_definitions.specs.Tables.{is_read}
 use Rattle.ps_queries.specs.Vectors.{SourceRow}
-use Rattle.ps_params.specs.Notes.{Note, row_at}
+use Rattle.ps_params.specs.Notes.{Note, noted_row}
 
 -- the rules; what is kept of the notes of tables that a parameter query reads, in which the order among different rows
 -- says nothing; the last position that was noted; the greatest that was forgotten; and for how many notes there is room
@@ -16,5 +16,5 @@ pub record Index : Type 0 where
   pub spare : ℕ
 
 -- of the tables that are read, a source has exactly the rows as they stood at a position
-abbrev pub StandsAt : List Definition → List Note → ℕ → List SourceRow → Type 0
-StandsAt definitions notes upto source = (r : SourceRow) → is_read definitions r.table ≡ true → Contains source r ↔ (row_at notes r.table r.id upto ≡ Some r.row)
+abbrev pub IndexStandsAt : List Definition → List Note → ℕ → List SourceRow → Type 0
+IndexStandsAt definitions notes upto source = (r : SourceRow) → is_read definitions r.table ≡ true → Contains source r ↔ (noted_row notes r.table r.id upto ≡ Some r.row)

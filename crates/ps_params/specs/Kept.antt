@@ -9,7 +9,7 @@ use Rattle.ps_definitions.specs.Vectors.{rows_read}
 use Rattle.ps_definitions.specs.Buckets.{bucket_name_of}
 use Rattle.ps_params.specs.declared.noted.Noted.{Noted}
 use Rattle.ps_params.specs.declared.paths.Path.{Path}
-use Rattle.ps_params.specs.Notes.{Note, row_at}
+use Rattle.ps_params.specs.Notes.{Note, noted_row}
 
 -- notes; the paths on which they are found, how many of the first are, and for how many more there is room
 pub record Keeping : Type 0 where
@@ -27,11 +27,11 @@ row_under note columns = record { table = note.table; id = note.id; row = column
 
 -- that row as it stood by all notes, if it stood
 abbrev pub standing : List Note → ℕ → Note → Option SourceRow
-standing all upto note = option_map (row_under note) (row_at all note.table note.id upto)
+standing all upto note = option_map (row_under note) (noted_row all note.table note.id upto)
 
 -- the rows that some notes are of, as they stood
-abbrev pub rows_of : List Note → ℕ → List Note → List SourceRow
-rows_of all upto notes = filter_map (standing all upto) notes
+abbrev pub standing_rows : List Note → ℕ → List Note → List SourceRow
+standing_rows all upto notes = filter_map (standing all upto) notes
 
 -- the buckets of a query on a row
 abbrev pub names_on : Definition → Asker → ParameterQuery → SourceRow → List (List ℕ)

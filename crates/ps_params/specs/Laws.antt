@@ -7,7 +7,7 @@ use Rattle.ps_definitions.specs.declared.definitions.Definition.{Definition}
 use Rattle.ps_queries.specs.Vectors.{SourceRow}
 use Rattle.ps_params.specs.Notes.{Note}
 use Rattle.ps_definitions.specs.Tables.{is_read}
-use Rattle.ps_params.specs.Indexes.{StandsAt}
+use Rattle.ps_params.specs.Indexes.{IndexStandsAt}
 
 abbrev pub note_of_change : ℕ → Change → Note
 note_of_change at change = record { at = at; table = change.table; id = change.id; row = change.row }
@@ -33,9 +33,9 @@ rows_in source = map row_of source
 -- by the notes of all changes, rows stand at each position as in the source there
 abbrev pub NotesAreTheSource : Type 0
 NotesAreTheSource = (definitions : List Definition) (transactions : List Transaction) (position : ℕ)
-    → StandsAt definitions (notes_of transactions) position (rows_in (source_at transactions position))
+    → IndexStandsAt definitions (notes_of transactions) position (rows_in (source_at transactions position))
 
 -- and by those of the tables that are read
 abbrev pub NotesReadAreTheSource : Type 0
 NotesReadAreTheSource = (definitions : List Definition) (transactions : List Transaction) (position : ℕ)
-    → StandsAt definitions (notes_read definitions transactions) position (rows_in (source_at transactions position))
+    → IndexStandsAt definitions (notes_read definitions transactions) position (rows_in (source_at transactions position))

@@ -19,9 +19,9 @@ row_after table id upto row [] = row
 row_after table id upto row (note ∷ notes) = row_after table id upto (if counts_for table id upto note then note.row else row) notes
 
 -- the row of a table and id as it stood at a position: as its last note up to there has it
-abbrev pub row_at : List Note → List ℕ → List ℕ → ℕ → Option (List Column)
-row_at notes table id upto = row_after table id upto None notes
+abbrev pub noted_row : List Note → List ℕ → List ℕ → ℕ → Option (List Column)
+noted_row notes table id upto = row_after table id upto None notes
 
 -- from a position on, all rows stand the same by both
 abbrev pub SameFrom : ℕ → List Note → List Note → Type 0
-SameFrom floor a b = (table id : List ℕ) (position : ℕ) → floor ≤ position → row_at a table id position ≡ row_at b table id position
+SameFrom floor a b = (table id : List ℕ) (position : ℕ) → floor ≤ position → noted_row a table id position ≡ noted_row b table id position

@@ -12,8 +12,8 @@ numbers_from table first [] = []
 numbers_from table first (p ∷ ps) = if bytes_eq p.table table then first ∷ numbers_from table (suc first) ps else numbers_from table (suc first) ps
 
 -- the numbers of a table's paths, in order
-abbrev pub numbers_of : List ℕ → List Path → List ℕ
-numbers_of table paths = numbers_from table 0 paths
+abbrev pub path_numbers : List ℕ → List Path → List ℕ
+path_numbers table paths = numbers_from table 0 paths
 
 -- the numbers that a map has for a table
 abbrev pub numbers_at : BTreeMap (List ℕ) (List ℕ) → List ℕ → List ℕ
@@ -21,4 +21,4 @@ numbers_at numbers table = places_or_none (get (slice_cmp nat_cmp) numbers table
 
 -- for each table the numbers of its paths
 abbrev pub AreNumbered : List Path → BTreeMap (List ℕ) (List ℕ) → Type 0
-AreNumbered paths numbers = (table : List ℕ) → numbers_at numbers table ≡ numbers_of table paths
+AreNumbered paths numbers = (table : List ℕ) → numbers_at numbers table ≡ path_numbers table paths

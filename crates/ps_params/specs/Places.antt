@@ -62,10 +62,10 @@ abbrev pub places_at : BTreeMap Spot (List ℕ) → Spot → List ℕ
 places_at found spot = places_or_none (get spot_cmp found spot)
 
 -- at each spot the places of the notes that lie there
-abbrev pub Finds : List Path → List Note → BTreeMap Spot (List ℕ) → Type 0
-Finds paths notes found = (number : ℕ) (text : List ℕ) → places_at found (number, text) ≡ places_from (lies_at paths number text) 0 notes
+abbrev pub FindsPlaces : List Path → List Note → BTreeMap Spot (List ℕ) → Type 0
+FindsPlaces paths notes found = (number : ℕ) (text : List ℕ) → places_at found (number, text) ≡ places_from (lies_at paths number text) 0 notes
 
 -- the notes up to a count are found
 pub record AreFound (paths : List Path) (notes : List Note) (count : ℕ) (found : BTreeMap Spot (List ℕ)) : Type 0 where
   pub within : count ≤ length notes
-  pub finds : Finds paths (take count notes) found
+  pub finds : FindsPlaces paths (take count notes) found

@@ -4,7 +4,7 @@ use Rattle.std.specs.BTreeSet.{BTreeSet, contains}
 use Rattle.ps_data.specs.declared.columns.Column.{Column}
 use Rattle.ps_rows.specs.Source.{Key, key_cmp}
 use Rattle.ps_params.specs.declared.noted.Noted.{Noted}
-use Rattle.ps_params.specs.Notes.{Note, row_at}
+use Rattle.ps_params.specs.Notes.{Note, noted_row}
 use Rattle.ps_params.specs.Kept.{note_of}
 
 -- rows of which what is kept tells how they stand from the floor on
@@ -12,12 +12,12 @@ abbrev pub is_settled : BTreeSet Key → List ℕ → List ℕ → Bool
 is_settled settled table id = contains key_cmp settled (table, id)
 
 -- what is kept lies the last note first
-abbrev pub seen : List Noted → List Note
-seen kept = map note_of (reverse kept)
+abbrev pub kept_notes : List Noted → List Note
+kept_notes kept = map note_of (reverse kept)
 
 -- a row by what is kept, and before that by the notes that are left where it is not settled
 abbrev pub row_left : (List ℕ → List ℕ → Bool) → List Note → List Note → List ℕ → List ℕ → ℕ → Option (List Column)
-row_left settled rest kept table id position = if settled table id then row_at kept table id position else row_at (rest ++ kept) table id position
+row_left settled rest kept table id position = if settled table id then noted_row kept table id position else noted_row (rest ++ kept) table id position
 
 -- one note less is left, and from the floor on all rows stand as before
 abbrev pub SameLeft : ℕ → Note → (List ℕ → List ℕ → Bool) → List Note → (List ℕ → List ℕ → Bool) → List Note → Type 0

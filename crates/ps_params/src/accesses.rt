@@ -7,7 +7,6 @@ ghost use Rattle.ps_params.specs.Accesses.{IsAccess, IsColumnWith};
 
 use ps_data::Text;
 use ps_queries::{Expr, Operator, Subject};
-use ps_values::equal_where_both_are_present;
 
 /// A column, what it is compared with, and whether that is a list of which its value is an element.
 #[derive(Drop)]
@@ -51,7 +50,7 @@ fn on_left<'a>(left: &'a Expr, right: &'a Expr, listed: bool) -> Option<Access<'
 fn by_equality<'a>(left: &'a Expr, right: &'a Expr) -> Option<Access<'a>>
     ensures { IfSome result (λ access. IsAccess (exprs.Two operators.Equal left.now right.now) access.column.now access.other.now access.listed) }
 {
-    equal_where_both_are_present();
+    ps_values::laws::equal_where_both_are_present();
     match on_left(left, right, false) {
         Some(access) => Some(access),
         None => on_left(right, left, false),
@@ -62,7 +61,7 @@ fn by_equality<'a>(left: &'a Expr, right: &'a Expr) -> Option<Access<'a>>
 fn by_element<'a>(left: &'a Expr, right: &'a Expr) -> Option<Access<'a>>
     ensures { IfSome result (λ access. IsAccess (exprs.Two operators.Within left.now right.now) access.column.now access.other.now access.listed) }
 {
-    equal_where_both_are_present();
+    ps_values::laws::equal_where_both_are_present();
     on_left(left, right, true)
 }
 

@@ -4,13 +4,13 @@ ghost use Rattle.std.specs.Prelude.{◌≡◌, true, [], ◌∷◌, ◌++◌, dr
 ghost use Rattle.std.specs.List.{AllByRecursion};
 ghost use Rattle.ps_definitions.specs.Buckets.{bucket_name_of};
 ghost use Rattle.ps_definitions.specs.Names.{is_definition_name};
-ghost use Rattle.ps_definitions.specs.RuleSets.{IsSound};
+ghost use Rattle.ps_definitions.specs.RuleSets.{IsSoundDefinition};
 ghost use Rattle.ps_queries.specs.Vectors.{at_row};
-ghost use Rattle.ps_params.specs.Kept.{note_of, rows_of, names_on, query_names, names_in as names_of_definition};
+ghost use Rattle.ps_params.specs.Kept.{note_of, standing_rows, names_on, query_names, names_in as names_of_definition};
 ghost use Rattle.ps_params.specs.Names.{IsTold};
 ghost use Rattle.ps_params.specs.Places.{notes_at};
 ghost use Rattle.ps_params.specs.Searches.{names_found};
-ghost use Rattle.ps_params.specs.Sets.{Gains};
+ghost use Rattle.ps_params.specs.Sets.{GainsItems};
 ghost use Rattle.ps_params.specs.Spots.{lying, lying_at};
 
 use crate::kept::{Kept, note_at};
@@ -18,7 +18,7 @@ use crate::name_sets::NameSet;
 use crate::noted::Noted;
 use crate::spots::spots;
 use ps_data::{Items, Memory, Position, Text, Value};
-use ps_definitions::{Definition, bucket_name, have_64_bits, names_are_distinct};
+use ps_definitions::{Definition, bucket_name, have_64_bits};
 use ps_queries::ParameterQuery;
 use ps_rows::Row;
 use ps_sql_eval::{Asker, vector_on};
@@ -30,7 +30,7 @@ fn bucket_of(alloc: Global, definition: &Text, values: &[Value]) -> Result<Text,
     ensures name { IfOk result (λ name. name ≡ bucket_name_of definition.now values.now) }
     ensures told { IfOk result IsTold }
 {
-    names_are_distinct();
+    ps_definitions::laws::names_are_distinct();
     have_64_bits(values);
     bucket_name(alloc, definition, values)
 }
@@ -46,7 +46,7 @@ fn add_on(
     row: &Row,
 ) -> Result<(), Memory>
     requires { is_definition_name definition.now.name ≡ true }
-    ensures { OnOk result (Gains names.old names.new (names_on definition.now asker.now query.now (at_row id.now row.now))) }
+    ensures { OnOk result (GainsItems names.old names.new (names_on definition.now asker.now query.now (at_row id.now row.now))) }
 {
     match vector_on(alloc, definition.names.as_slice(), query, asker, id, row)? {
         Some(values) => names.insert(bucket_of(alloc, &definition.name, values.as_slice())?),
@@ -69,8 +69,8 @@ impl Search<'_> {
     // Puts the bucket on the row that a note is of among others.
     fn add_noted(&self, alloc: Global, names: &mut NameSet, note: &Noted) -> Result<(), Memory>
         requires { is_definition_name self.now.definition.now.name ≡ true }
-        ensures { OnOk result (Gains names.old names.new
-            (flat_map (names_on self.now.definition.now self.now.asker.now self.now.query.now) (rows_of self.now.kept.now.notes self.now.upto.0 (note_of note.now ∷ [])))) }
+        ensures { OnOk result (GainsItems names.old names.new
+            (flat_map (names_on self.now.definition.now self.now.asker.now self.now.query.now) (standing_rows self.now.kept.now.notes self.now.upto.0 (note_of note.now ∷ [])))) }
     {
         match self.kept.standing(alloc, &note.table, &note.id, self.upto)? {
             Some(row) => add_on(
@@ -89,7 +89,7 @@ impl Search<'_> {
     // Puts the bucket on the row of a note among others, if that is of the query's table.
     fn add_candidate(&self, alloc: Global, names: &mut NameSet, note: &Noted) -> Result<(), Memory>
         requires { is_definition_name self.now.definition.now.name ≡ true }
-        ensures { OnOk result (Gains names.old names.new (names_found self.now (note_of note.now ∷ []))) }
+        ensures { OnOk result (GainsItems names.old names.new (names_found self.now (note_of note.now ∷ []))) }
     {
         if !note.table.equals(self.table) {
             return Ok(());
@@ -100,7 +100,7 @@ impl Search<'_> {
     // Puts the buckets on the rows of some notes among others.
     fn add_notes(&self, alloc: Global, names: &mut NameSet, notes: &[Noted]) -> Result<(), Memory>
         requires { is_definition_name self.now.definition.now.name ≡ true }
-        ensures { OnOk result (Gains names.old names.new (names_found self.now (map note_of notes.now))) }
+        ensures { OnOk result (GainsItems names.old names.new (names_found self.now (map note_of notes.now))) }
     {
         'notes: for note in notes {
             self.add_candidate(alloc, names, note)?;
@@ -111,7 +111,7 @@ impl Search<'_> {
     // Puts the buckets on the rows of the notes at some places among others.
     fn add_places(&self, alloc: Global, names: &mut NameSet, places: &[usize]) -> Result<(), Memory>
         requires { is_definition_name self.now.definition.now.name ≡ true }
-        ensures { OnOk result (Gains names.old names.new (names_found self.now (notes_at self.now.kept.now.notes places.now))) }
+        ensures { OnOk result (GainsItems names.old names.new (names_found self.now (notes_at self.now.kept.now.notes places.now))) }
     {
         'places: for place in places {
             let Some(note) = note_at(self.kept.notes(), *place) else {
@@ -130,7 +130,7 @@ impl Search<'_> {
         spot: &(usize, Text),
     ) -> Result<(), Memory>
         requires { is_definition_name self.now.definition.now.name ≡ true }
-        ensures { OnOk result (Gains names.old names.new
+        ensures { OnOk result (GainsItems names.old names.new
             (names_found self.now (lying self.now.kept.now.paths self.now.kept.now.notes self.now.kept.now.indexed spot.now))) }
     {
         let places = self.kept.places(spot);
@@ -145,7 +145,7 @@ impl Search<'_> {
         spots: &[(usize, Text)],
     ) -> Result<(), Memory>
         requires { is_definition_name self.now.definition.now.name ≡ true }
-        ensures { OnOk result (Gains names.old names.new
+        ensures { OnOk result (GainsItems names.old names.new
             (names_found self.now (lying_at self.now.kept.now.paths self.now.kept.now.notes self.now.kept.now.indexed spots.now))) }
     {
         'spots: for spot in spots {
@@ -162,7 +162,7 @@ impl Search<'_> {
         spots: &[(usize, Text)],
     ) -> Result<(), Memory>
         requires { is_definition_name self.now.definition.now.name ≡ true }
-        ensures { OnOk result (Gains names.old names.new (names_found self.now
+        ensures { OnOk result (GainsItems names.old names.new (names_found self.now
             (lying_at self.now.kept.now.paths self.now.kept.now.notes self.now.kept.now.indexed spots.now ++ drop self.now.kept.now.indexed self.now.kept.now.notes))) }
     {
         self.add_spots(alloc, names, spots)?;
@@ -174,7 +174,7 @@ impl Search<'_> {
     // only they and those of late notes are looked at.
     fn add_all(&self, alloc: Global, names: &mut NameSet) -> Result<(), Memory>
         requires { is_definition_name self.now.definition.now.name ≡ true }
-        ensures { OnOk result (Gains names.old names.new (names_found self.now self.now.kept.now.notes)) }
+        ensures { OnOk result (GainsItems names.old names.new (names_found self.now self.now.kept.now.notes)) }
     {
         match spots(
             alloc,
@@ -200,7 +200,7 @@ fn add_query(
     upto: Position,
 ) -> Result<(), Memory>
     requires { is_definition_name definition.now.name ≡ true }
-    ensures { OnOk result (Gains names.old names.new (query_names definition.now asker.now (rows_of kept.now.notes upto.0 kept.now.notes) query.now)) }
+    ensures { OnOk result (GainsItems names.old names.new (query_names definition.now asker.now (standing_rows kept.now.notes upto.0 kept.now.notes) query.now)) }
 {
     match &query.table {
         Some(table) => {
@@ -232,8 +232,8 @@ fn add_queries(
     upto: Position,
 ) -> Result<(), Memory>
     requires { is_definition_name definition.now.name ≡ true }
-    ensures { OnOk result (Gains names.old names.new
-        (flat_map (query_names definition.now asker.now (rows_of kept.now.notes upto.0 kept.now.notes)) definition.now.parameters)) }
+    ensures { OnOk result (GainsItems names.old names.new
+        (flat_map (query_names definition.now asker.now (standing_rows kept.now.notes upto.0 kept.now.notes)) definition.now.parameters)) }
 {
     'queries: for query in definition.parameters.as_slice() {
         add_query(alloc, names, definition, query, asker, kept, upto)?;
@@ -251,7 +251,7 @@ fn add_definition(
     upto: Position,
 ) -> Result<(), Memory>
     requires { is_definition_name definition.now.name ≡ true }
-    ensures { OnOk result (Gains names.old names.new (names_of_definition asker.now (rows_of kept.now.notes upto.0 kept.now.notes) definition.now)) }
+    ensures { OnOk result (GainsItems names.old names.new (names_of_definition asker.now (standing_rows kept.now.notes upto.0 kept.now.notes) definition.now)) }
 {
     if definition.parameters.is_empty() {
         let none = Vec::new(alloc);
@@ -269,9 +269,9 @@ pub(crate) fn add_definitions(
     kept: &Kept,
     upto: Position,
 ) -> Result<(), Memory>
-    requires { AllByRecursion IsSound definitions.now }
-    ensures { OnOk result (Gains names.old names.new
-        (flat_map (names_of_definition asker.now (rows_of kept.now.notes upto.0 kept.now.notes)) definitions.now)) }
+    requires { AllByRecursion IsSoundDefinition definitions.now }
+    ensures { OnOk result (GainsItems names.old names.new
+        (flat_map (names_of_definition asker.now (standing_rows kept.now.notes upto.0 kept.now.notes)) definitions.now)) }
 {
     'definitions: for definition in definitions {
         add_definition(alloc, names, definition, asker, kept, upto)?;

@@ -2,7 +2,7 @@ ghost use Rattle.std.specs.Prelude.{◌≡◌, ◌≤◌, ◌+◌, max, List, []
 ghost use Rattle.ps_queries.specs.Vectors.{SourceRow};
 ghost use Rattle.ps_params.specs.Notes.{Note, SameFrom};
 ghost use Rattle.ps_definitions.specs.Tables.{is_read};
-ghost use Rattle.ps_params.specs.Indexes.{StandsAt};
+ghost use Rattle.ps_params.specs.Indexes.{IndexStandsAt};
 ghost use Rattle.ps_params.specs.Names.{bucket_names, AreTold};
 
 use crate::asking::add_definitions;
@@ -115,7 +115,7 @@ impl ParameterIndex {
         requires kept { self.now.forgotten ≤ upto.0 }
         // Each is of a vector of integers of signed 64 bits.
         ensures told { IfOk result AreTold }
-        ensures names { (source : List SourceRow) → StandsAt self.now.rules.definitions self.now.notes upto.0 source
+        ensures names { (source : List SourceRow) → IndexStandsAt self.now.rules.definitions self.now.notes upto.0 source
             → IfOk result (λ names. names ≡ bucket_names rules.now.definitions asker.now source) }
     {
         let mut names = NameSet::new(alloc);

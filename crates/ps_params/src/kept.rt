@@ -2,7 +2,7 @@
 
 ghost use Rattle.std.specs.Prelude.{◌≡◌, ◌≤◌, ◌+◌, [], ◌∷◌, ◌++◌, map, take, drop, Some, OnOk, IfOk, IfSome, slice_get};
 ghost use Rattle.std.specs.Option.{option_copied};
-ghost use Rattle.ps_params.specs.Notes.{counts_for, row_at, row_after, SameFrom};
+ghost use Rattle.ps_params.specs.Notes.{counts_for, noted_row, row_after, SameFrom};
 ghost use Rattle.ps_params.specs.Kept.{note_of};
 ghost use Rattle.ps_params.specs.Places.{notes_at, places_from, lies_at};
 
@@ -161,7 +161,7 @@ impl Kept {
         id: &Text,
         upto: Position,
     ) -> Result<Option<&Row>, Memory>
-        ensures { IfOk result (λ row. option_copied row ≡ row_at (take self.now.indexed self.now.notes) table.now id.now upto.0) }
+        ensures { IfOk result (λ row. option_copied row ≡ noted_row (take self.now.indexed self.now.notes) table.now id.now upto.0) }
     {
         match self.path(table, Some("id")) {
             Some(number) => {
@@ -184,7 +184,7 @@ impl Kept {
         id: &Text,
         upto: Position,
     ) -> Result<Option<&Row>, Memory>
-        ensures { IfOk result (λ row. option_copied row ≡ row_at self.now.notes table.now id.now upto.0) }
+        ensures { IfOk result (λ row. option_copied row ≡ noted_row self.now.notes table.now id.now upto.0) }
     {
         let early = self.standing_early(alloc, table, id, upto)?;
         Ok(standing_after(early, self.late(), table, id, upto))
@@ -233,7 +233,7 @@ fn standing_among<'a>(
     id: &Text,
     upto: Position,
 ) -> Option<&'a Row>
-    ensures { option_copied result ≡ row_at (notes_at (map note_of notes.now) places.now) table.now id.now upto.0 }
+    ensures { option_copied result ≡ noted_row (notes_at (map note_of notes.now) places.now) table.now id.now upto.0 }
 {
     'places: for behind in 0..places.len() {
         let Some(note) = note_at(notes, places[places.len() - 1 - behind]) else {

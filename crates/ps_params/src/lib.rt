@@ -6,7 +6,7 @@ mod accesses;
 mod asking;
 mod indexes;
 mod kept;
-mod laws;
+pub mod laws;
 mod name_sets;
 mod noted;
 mod paths;
@@ -15,4 +15,3 @@ mod spots;
 mod trimming;
 
 pub use indexes::ParameterIndex;
-pub use laws::notes_of_changes_are_the_source;

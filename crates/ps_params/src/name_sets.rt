@@ -3,7 +3,7 @@
 ghost use Rattle.std.specs.Prelude.{◌≡◌, [], ◌∷◌, ℕ, List, IfOk, OnOk};
 ghost use Rattle.ps_definitions.specs.Buckets.{in_order as names_in_order};
 ghost use Rattle.ps_params.specs.Names.{IsTold, AreTold};
-ghost use Rattle.ps_params.specs.Sets.{Gains, HaveSame};
+ghost use Rattle.ps_params.specs.Sets.{GainsItems, HaveSameItems};
 
 use ps_data::{Items, Memory, Text};
 use std::alloc::Global;
@@ -40,7 +40,7 @@ impl NameSet {
     /// Puts a name among them.
     pub(crate) fn insert(&mut self, name: Text) -> Result<(), Memory>
         requires { IsTold name }
-        ensures { OnOk result (Gains self.old self.new (name ∷ [])) }
+        ensures { OnOk result (GainsItems self.old self.new (name ∷ [])) }
     {
         self.known.insert(name)?;
         Ok(())
@@ -49,7 +49,7 @@ impl NameSet {
     /// The names in the order of their bytes.
     pub(crate) fn in_order(self, alloc: Global) -> Result<Items<Text>, Memory>
         ensures told { IfOk result AreTold }
-        ensures names { IfOk result (λ names. (same : List (List ℕ)) → HaveSame self same → names ≡ names_in_order same) }
+        ensures names { IfOk result (λ names. (same : List (List ℕ)) → HaveSameItems self same → names ≡ names_in_order same) }
     {
         let _ordered = self.known.len();
         let NameSet { known } = self;

@@ -2,7 +2,7 @@
 
 ghost use Rattle.std.specs.Prelude.{◌≡◌, ◌↔◌, ℕ, List, [], ◌∷◌, ◌++◌, if◌then◌else◌, bytes_eq, IsTrue, Some, IfSome, OnOk, slice_get};
 ghost use Rattle.std.specs.Option.{option_copied};
-ghost use Rattle.ps_params.specs.Numbers.{numbers_of, numbers_at};
+ghost use Rattle.ps_params.specs.Numbers.{path_numbers, numbers_at};
 
 use crate::accesses::access_of;
 use ps_data::{Items, Memory, Text};
@@ -97,7 +97,7 @@ impl Paths {
 
     /// The numbers of a table's paths.
     pub(crate) fn numbers(&self, table: &Text) -> &[usize]
-        ensures { result.now ≡ numbers_of table.now self.now }
+        ensures { result.now ≡ path_numbers table.now self.now }
     {
         match self.numbers.get(table) {
             Some(numbers) => numbers.as_slice(),

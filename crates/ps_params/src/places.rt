@@ -3,7 +3,7 @@
 ghost use Rattle.std.specs.Prelude.{◌≡◌, ℕ, ◌≤◌, ◌&&◌, nat_eq, ◌++◌, [], ◌∷◌, List, map, take, length, if◌then◌else◌, OnOk, IfOk};
 ghost use Rattle.ps_queries.specs.Meaning.{text_of as text_of_value};
 ghost use Rattle.ps_params.specs.Kept.{note_of};
-ghost use Rattle.ps_params.specs.Places.{text_in, text_by, text_on, is_spot, lies_at, places_at, Finds};
+ghost use Rattle.ps_params.specs.Places.{text_in, text_by, text_on, is_spot, lies_at, places_at, FindsPlaces};
 
 use crate::noted::Noted;
 use crate::paths::{Path, Paths};
@@ -131,8 +131,8 @@ pub(crate) fn with_notes(
     first: usize,
 ) -> Result<Found, Memory>
     requires within { first ≤ length notes.now }
-    requires finds { Finds paths.now (take first (map note_of notes.now)) found }
-    ensures { IfOk result (λ found. Finds paths.now (map note_of notes.now) found) }
+    requires finds { FindsPlaces paths.now (take first (map note_of notes.now)) found }
+    ensures { IfOk result (λ found. FindsPlaces paths.now (map note_of notes.now) found) }
 {
     let mut found = found;
     for place in first..notes.len() {

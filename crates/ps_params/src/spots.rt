@@ -2,7 +2,7 @@
 
 ghost use Rattle.std.specs.Prelude.{◌≡◌, [], IfOk, IfSome};
 ghost use Rattle.ps_sql_eval.specs.Evaluated.{without_bucket};
-ghost use Rattle.ps_params.specs.Accesses.{compared as compared_values, Covers};
+ghost use Rattle.ps_params.specs.Accesses.{compared_with as compared_values, Covers};
 ghost use Rattle.ps_params.specs.Spots.{spots_for};
 
 use crate::accesses::access_of;

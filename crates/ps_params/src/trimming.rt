@@ -4,7 +4,7 @@ ghost use Rattle.std.specs.Prelude.{◌≡◌, ℕ, ◌≤◌, ◌<◌, ◌+◌,
 ghost use Rattle.std.specs.Vec.{vec_capacity};
 ghost use Rattle.ps_params.specs.Notes.{SameFrom};
 ghost use Rattle.ps_params.specs.Kept.{note_of};
-ghost use Rattle.ps_params.specs.Trimming.{is_settled, seen, settles, SameLeft};
+ghost use Rattle.ps_params.specs.Trimming.{is_settled, kept_notes, settles, SameLeft};
 
 use crate::noted::Noted;
 use ps_data::{Memory, Position, Text};
@@ -51,7 +51,7 @@ fn settle_by(
 // Keeps a note before those that are kept.
 fn keep_before(kept: &mut Vec<Noted>, noted: Noted)
     requires { vec_len kept.old < vec_capacity kept.old }
-    ensures seen { seen kept.new.items ≡ note_of noted ∷ seen kept.old.items }
+    ensures seen { kept_notes kept.new.items ≡ note_of noted ∷ kept_notes kept.old.items }
     ensures len { vec_len kept.new ≡ vec_len kept.old + 1 }
     ensures capacity { vec_capacity kept.new ≡ vec_capacity kept.old }
 {
@@ -67,7 +67,7 @@ fn take_back(
     floor: Position,
 )
     requires { vec_len kept.old < vec_capacity kept.old }
-    ensures left { SameLeft floor.0 (note_of noted) (is_settled settled.old) (seen kept.old.items) (is_settled settled.new) (seen kept.new.items) }
+    ensures left { SameLeft floor.0 (note_of noted) (is_settled settled.old) (kept_notes kept.old.items) (is_settled settled.new) (kept_notes kept.new.items) }
     ensures len { vec_len kept.new ≤ vec_len kept.old + 1 }
     ensures capacity { vec_capacity kept.new ≡ vec_capacity kept.old }
 {

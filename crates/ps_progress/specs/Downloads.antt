@@ -7,8 +7,8 @@ use Rattle.ps_lines.specs.declared.lines.Line.TheVariants.{Checkpoint, Diff, Dat
 use Rattle.ps_progress.specs.declared.downloads.Download.{Download}
 
 -- a number that 64 bits hold
-abbrev pub within : ℕ → Option ℕ
-within n = if nat_lt n (2 ^ 64) then Some n else None
+abbrev pub within_64_bits : ℕ → Option ℕ
+within_64_bits n = if nat_lt n (2 ^ 64) then Some n else None
 
 -- how many operations entries have together
 abbrev pub counts_of : List Entry → ℕ
@@ -18,12 +18,12 @@ counts_of (entry ∷ entries) = entry.count + counts_of entries
 -- so many operations more came
 abbrev pub more_of : ℕ → Option Download → Option Download
 more_of count None = None
-more_of count (Some so_far) = option_map (λ taken. record so_far { taken = taken }) (within (so_far.taken + count))
+more_of count (Some so_far) = option_map (λ taken. record so_far { taken = taken }) (within_64_bits (so_far.taken + count))
 
 -- a checkpoint tells how many operations its buckets have, none of which came yet; operations come; of a checkpoint that is told by what differs from the one
 -- before, nothing is known
 abbrev pub after_line : Line → Option Download → Option Download
-after_line (Checkpoint last_op number buckets) so_far = option_map (λ of. record { taken = 0; of = of }) (within (counts_of buckets))
+after_line (Checkpoint last_op number buckets) so_far = option_map (λ of. record { taken = 0; of = of }) (within_64_bits (counts_of buckets))
 after_line (Diff last_op number removed updated) so_far = None
 after_line (Data bucket after has_more ops next_after) so_far = more_of (length ops) so_far
 after_line (Complete last_op) so_far = so_far

@@ -15,11 +15,11 @@ pub record Seen : Type 0 where
   pub faults : ℕ
 
 -- one that has heard nothing
-abbrev pub fresh : Bool → Option (List ℕ) → ℕ → Seen
-fresh on taken faults = record { on = on; so_far = None; is_open = false; taken = taken; faults = faults }
+abbrev pub fresh_meter : Bool → Option (List ℕ) → ℕ → Seen
+fresh_meter on taken faults = record { on = on; so_far = None; is_open = false; taken = taken; faults = faults }
 
 -- its sink took the text; or it failed, and took a front of it. Nothing else changed but what is said
-pub record Took (old new : Seen) (text : List ℕ) (so_far : Option Download) (is_open : Bool) : Type 0 where
+pub record SinkTook (old new : Seen) (text : List ℕ) (so_far : Option Download) (is_open : Bool) : Type 0 where
   pub gains : Gains old.taken new.taken text
   pub quiet : new.faults ≡ old.faults
   pub on : new.on ≡ old.on
@@ -36,7 +36,7 @@ pub record Failed (old new : Seen) (text : List ℕ) : Type 0 where
 -- how far the download is was told; where the sink failed, it is not known any more
 abbrev pub Reports : Seen → Seen → Option Download → Type 0
 Reports old new None = ⊥
-Reports old new (Some download) = Took old new (told_text download) (Some download) true ⊎ Failed old new (told_text download)
+Reports old new (Some download) = SinkTook old new (told_text download) (Some download) true ⊎ Failed old new (told_text download)
 
 -- it is told exactly where it is due
 abbrev pub CountsIf : Bool → Seen → Seen → Option Download → Type 0
@@ -58,16 +58,16 @@ Heeds old new line = HeedsIf old.on old new line
 abbrev pub EndsIf : Bool → Bool → Seen → Seen → Type 0
 EndsIf false is_open old new = new ≡ old
 EndsIf true false old new = new ≡ old
-EndsIf true true old new = Took old new (codes "\n") None false ⊎ Failed old new (codes "\n")
+EndsIf true true old new = SinkTook old new (codes "\n") None false ⊎ Failed old new (codes "\n")
 
-abbrev pub Ends : Seen → Seen → Type 0
-Ends old new = EndsIf old.on old.is_open old new
+abbrev pub EndsMeter : Seen → Seen → Type 0
+EndsMeter old new = EndsIf old.on old.is_open old new
 
 -- it heard lines, one after another, of streams one after another
 pub data Hears (old : Seen) : Seen → Type 0 where
   nothing : Hears old old
   line : (before after : Seen) (bytes : List ℕ) → Hears old before → Heeds before after bytes → Hears old after
-  end : (before after : Seen) → Hears old before → Ends before after → Hears old after
+  end : (before after : Seen) → Hears old before → EndsMeter before after → Hears old after
 
 -- one that is off stays as it is, and its sink with it
 abbrev pub OffTellsNothing : Type 0

@@ -1,7 +1,7 @@
 //! How far a download is after each line of its stream.
 
 ghost use Rattle.std.specs.Prelude.{◌≡◌};
-ghost use Rattle.ps_progress.specs.Downloads.{counts_of, after_line, more_of, is_due, within};
+ghost use Rattle.ps_progress.specs.Downloads.{counts_of, after_line, more_of, is_due, within_64_bits};
 ghost use Rattle.ps_progress.specs.declared.downloads.Download.{Download as DownloadSeen};
 
 use ps_lines::{Entry, Line};
@@ -20,7 +20,7 @@ pub struct Download {
 
 // How many operations entries have together, where 64 bits hold the number.
 fn all_of(entries: &[Entry]) -> Option<u64>
-    ensures { result ≡ within (counts_of entries.now) }
+    ensures { result ≡ within_64_bits (counts_of entries.now) }
 {
     let mut all = 0u64;
     'entries: for entry in entries {

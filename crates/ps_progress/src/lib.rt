@@ -2,11 +2,10 @@
 #![tactic(auto)]
 
 mod downloads;
-mod laws;
+pub mod laws;
 mod meters;
 mod nowhere;
 
 pub use downloads::Download;
-pub use laws::meters_that_are_off_tell_nothing;
 pub use meters::Meter;
 pub use nowhere::Nowhere;

@@ -2,7 +2,7 @@
 
 ghost use Rattle.std.specs.Prelude.{◌≡◌, ◌⊎◌, true, false, None, IfOk, codes, string_bytes};
 ghost use Rattle.ps_progress.specs.Downloads.{told_text};
-ghost use Rattle.ps_progress.specs.Meters.{Counts, Ends, Heeds, Reports, fresh};
+ghost use Rattle.ps_progress.specs.Meters.{Counts, EndsMeter, Heeds, Reports, fresh_meter};
 ghost use Rattle.ps_progress.specs.declared.downloads.Download.{Download as DownloadSeen};
 
 use crate::Download;
@@ -53,7 +53,7 @@ fn text_of(alloc: Global, download: Download) -> Result<String, Memory>
 impl<K: Sink> Meter<K> {
     /// A meter that tells a sink.
     pub fn new(to: K) -> Meter<K>
-        ensures { result ≡ fresh true (K.taken to) (K.faults to) }
+        ensures { result ≡ fresh_meter true (K.taken to) (K.faults to) }
     {
         Meter {
             to,
@@ -65,7 +65,7 @@ impl<K: Sink> Meter<K> {
 
     /// A meter that is off: it reads no line and tells nothing.
     pub fn off(to: K) -> Meter<K>
-        ensures { result ≡ fresh false (K.taken to) (K.faults to) }
+        ensures { result ≡ fresh_meter false (K.taken to) (K.faults to) }
     {
         Meter {
             to,
@@ -127,7 +127,7 @@ impl<K: Sink> Meter<K> {
 
     /// A stream is over: the line of the terminal that was begun is ended.
     pub fn end(&mut self)
-        ensures { Ends self.old self.new }
+        ensures { EndsMeter self.old self.new }
     {
         if !self.on {
             return;

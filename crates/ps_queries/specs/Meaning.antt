@@ -22,7 +22,7 @@ use Rattle.ps_queries.specs.declared.expressions.Function.{Function}
 use Rattle.ps_queries.specs.declared.expressions.Function.TheVariants as functions
 use Rattle.ps_queries.specs.declared.expressions.Operator.{Operator}
 use Rattle.ps_queries.specs.declared.expressions.Operator.TheVariants as operators
-use Rattle.ps_data.specs.Conversions.{value_of as json_value}
+use Rattle.ps_data.specs.Conversions.{json_value as json_value}
 use Rattle.ps_queries.specs.Json.{plain_json}
 
 -- what an expression is evaluated over: an asker, a row with its id, and the value of each parameter of a bucket
@@ -42,8 +42,8 @@ rank_of True = 2
 abbrev pub least : Truth → Truth → Truth
 least a b = if nat_le (rank_of a) (rank_of b) then a else b
 
-abbrev pub greatest : Truth → Truth → Truth
-greatest a b = if nat_le (rank_of a) (rank_of b) then b else a
+abbrev pub greatest_truth : Truth → Truth → Truth
+greatest_truth a b = if nat_le (rank_of a) (rank_of b) then b else a
 
 abbrev pub opposite_truth : Truth → Truth
 opposite_truth True = False
@@ -94,10 +94,10 @@ abbrev pub text_value : Option (List ℕ) → Value
 text_value None = Null
 text_value (Some t) = Text t
 
-abbrev pub joined : Option (List ℕ) → Option (List ℕ) → Value
-joined None b = Null
-joined (Some a) None = Null
-joined (Some a) (Some b) = Text (a ++ b)
+abbrev pub joined_texts : Option (List ℕ) → Option (List ℕ) → Value
+joined_texts None b = Null
+joined_texts (Some a) None = Null
+joined_texts (Some a) (Some b) = Text (a ++ b)
 
 abbrev pub length_value : Option (List ℕ) → Value
 length_value None = Null
@@ -151,7 +151,7 @@ member_value (Some d) = json_value d
 
 -- operators between two values
 abbrev pub two_value : Operator → Value → Value → Value
-two_value operators.Or a b = truth_value (greatest (truth_of a) (truth_of b))
+two_value operators.Or a b = truth_value (greatest_truth (truth_of a) (truth_of b))
 two_value operators.And a b = truth_value (least (truth_of a) (truth_of b))
 two_value operators.Equal a b = truth_value (equal_sql a b)
 two_value operators.NotEqual a b = truth_value (opposite_truth (equal_sql a b))
@@ -160,7 +160,7 @@ two_value operators.LessEqual a b = ordered (λ o. not (is_greater o)) a b
 two_value operators.Greater a b = ordered is_greater a b
 two_value operators.GreaterEqual a b = ordered (λ o. not (is_less o)) a b
 two_value operators.Within a b = within_items a (array_of b)
-two_value operators.Join a b = joined (text_of a) (text_of b)
+two_value operators.Join a b = joined_texts (text_of a) (text_of b)
 two_value operators.Arrow a b = member_text (member_of a b)
 two_value operators.DoubleArrow a b = member_value (member_of a b)
 

@@ -10,7 +10,7 @@ use Rattle.ps_yaml.specs.declared.nodes.Node.TheOpen as layers
 use Rattle.ps_yaml.specs.declared.nodes.Node.TheVariants as nodes
 use Rattle.ps_yaml.specs.declared.nodes.Pair.{Pair}
 use Rattle.ps_yaml.specs.Lines.{Line}
-use Rattle.ps_yaml.specs.Trees.{is_named, name_of}
+use Rattle.ps_yaml.specs.Trees.{is_named, entry_name}
 use Rattle.ps_yaml.specs.Grammar.{Spells, Entries, entries_end, entry, IsDocument as IsYaml, nothing, root}
 use Rattle.ps_rules.specs.declared.drafts.Written.{Written}
 use Rattle.ps_rules.specs.declared.drafts.Parts.{Parts}
@@ -25,8 +25,8 @@ use Rattle.ps_rules.specs.declared.faults.RulesFault.TheVariants as faults
 use Rattle.ps_rules.specs.Faults.{◌>>=◌, refuse, sql, Reads}
 use Rattle.ps_definitions.specs.Names.{is_in, has_repeated, same_names, output_names}
 use Rattle.ps_definitions.specs.Branches.{branches_of}
-use Rattle.ps_rules.specs.Shapes.{Layer, layer_pairs, pairs_of, layer_written, written_of, all_written, layer_queries, queries_of, is_empty_scalar, data_of, part_of, parts_of, no_parts, has_name, shape_fault, pair_fault, draft_of, draft_with, draft_names, drafts_from, definitions_of, sections_of, drafts_of}
-use Rattle.ps_definitions.specs.Checks.{names_of, has_no_id, has_unknown, has_many_branches, is_matched}
+use Rattle.ps_rules.specs.Shapes.{Layer, layer_pairs, pairs_of, layer_written, written_of, all_written, layer_queries, queries_of, is_empty_scalar, data_queries, part_of, parts_of, no_parts, has_name, shape_fault, pair_fault, draft_of, draft_with, draft_names, drafts_from, definitions_of, sections_of, drafts_of}
+use Rattle.ps_definitions.specs.Checks.{names_of_parameters, has_no_id, has_unknown, has_many_branches, is_matched}
 use Rattle.ps_rules.specs.Checks.{is_mixed, client_warning, known_from, known_with, all_known, planned_from, planned_of, all_planned, data_warning, checked_of}
 use Rattle.ps_rules.specs.Reading.{with_checked, rules_from, rules_of, no_rules}
 use Rattle.ps_definitions.specs.RuleSets.{RuleSet}
@@ -72,7 +72,7 @@ queries_found node all h = by_layer (out-Node node) refl h where
   by_layer (layers.List items line column) is h = let a = scalars_found [] items all h in subst (AreQueries node) (sym a.is) (several node items line column a.own is a.are)
   by_layer (layers.Map pairs line column) is h = absurd (cc)
 
-data_found : (node : Node) (all : List Written) → data_of node ≡ Ok all → AreData node all
+data_found : (node : Node) (all : List Written) → data_queries node ≡ Ok all → AreData node all
 data_found node all h = by_test (is_empty_scalar node) refl h where
   by_test : (b : Bool) → is_empty_scalar node ≡ b → (if b then Ok [] else queries_of node) ≡ Ok all → AreData node all
   by_test true empty h = subst (AreData node) (same_ok [] all h) (no_data node empty)
@@ -103,10 +103,10 @@ part_found parts pair pairs more all h rest = by_data (bytes_eq pair.name (codes
   by_parameters false other h = by_ignored (bytes_eq pair.name (codes "accept_potentially_dangerous_queries")) refl h
 
   by_data : (b : Bool) → bytes_eq pair.name (codes "data") ≡ b
-      → (if b then (data_of pair.node >>= λ queries. Ok (record parts { queries = queries })) else (if bytes_eq pair.name (codes "parameters") then (queries_of pair.node >>= λ queries. Ok (record parts { parameters = queries })) else (if bytes_eq pair.name (codes "accept_potentially_dangerous_queries") then ignores else Err (pair_fault pair)))) ≡ Ok more
+      → (if b then (data_queries pair.node >>= λ queries. Ok (record parts { queries = queries })) else (if bytes_eq pair.name (codes "parameters") then (queries_of pair.node >>= λ queries. Ok (record parts { parameters = queries })) else (if bytes_eq pair.name (codes "accept_potentially_dangerous_queries") then ignores else Err (pair_fault pair)))) ≡ Ok more
       → Give parts (pair ∷ pairs) all
   by_data true named h =
-      let a = both_ok (data_of pair.node) (λ (queries : List Written). Ok (record parts { queries = queries })) more h in
+      let a = both_ok (data_queries pair.node) (λ (queries : List Written). Ok (record parts { queries = queries })) more h in
       data_given parts pair pairs a.0 all (same_name pair.name (codes "data") named) (data_found pair.node a.0 a.1)
       (subst (λ (p : Parts). Give p pairs all) (sym (same_ok (record parts { queries = a.0 }) more a.2)) rest)
   by_data false other h = by_parameters (bytes_eq pair.name (codes "parameters")) refl h
@@ -183,7 +183,7 @@ names_among name (pair ∷ pairs) = ap (λ b. bytes_eq pair.name name || b) (nam
 entries_differ : {indent : ℕ} {before : List Pair} {lines : List Line} {all : List Pair} {rest : List Line} → Entries indent before lines all rest → has_repeated (pair_names before) ≡ false → has_repeated (pair_names all) ≡ false
 entries_differ (entries_end indent before lines end) differ = differ
 entries_differ (entry indent before lines line own node after all rest here stands is fresh value more) differ =
-    let name = name_of line in
+    let name = entry_name line in
     let names = map-append (λ (p : Pair). p.name) before (_ ∷ []) in
     entries_differ more (ap has_repeated names ∙ repeated_more (pair_names before) name
     ∙ ap (λ b. if b then true else has_repeated (pair_names before)) (names_among name before ∙ fresh) ∙ differ)
@@ -259,12 +259,12 @@ document_found bytes node drafts spelled h =
 record KnownFound (before : List ParameterQuery) (warnings : List Warning) (all : List Written) (known : Known) : Type 0 where
   own : List ParameterQuery
   is : known.queries ≡ before ++ own
-  are : AreParametersOf (names_of known.queries) all own
+  are : AreParametersOf (names_of_parameters known.queries) all own
   warned : known.warnings ≡ warnings ++ client_warnings all own
 
 -- one more query does not change the names of the first
 names_stay : (before : List ParameterQuery) (query : ParameterQuery) (own : List ParameterQuery) → is_mixed before (output_names query.outputs) ≡ false
-    → same_names (names_of (before ++ query ∷ own)) (output_names query.outputs) ≡ true
+    → same_names (names_of_parameters (before ++ query ∷ own)) (output_names query.outputs) ≡ true
 names_stay [] query own alike = same_self (output_names query.outputs)
 names_stay (first ∷ before) query own alike = not_false (same_names (output_names first.outputs) (output_names query.outputs)) alike
 
@@ -285,10 +285,10 @@ known_found known (written ∷ others) last h =
     let is = same_ok (made query) a.0 c.1 in
     let rest = known_found a.0 others last a.2 in
     let whole : last.queries ≡ known.queries ++ query ∷ rest.own = rest.is ∙ ap (λ (k : Known). k.queries ++ rest.own) (sym is) ∙ append_assoc known.queries (query ∷ []) rest.own in
-    let one : IsParameterOf (names_of last.queries) written query = record {
+    let one : IsParameterOf (names_of_parameters last.queries) written query = record {
       read = was_read line column (parameter_query_of written.text) query q.1;
       names_differ = b.0;
-      same_set = ap (λ (qs : List ParameterQuery). same_names (names_of qs) (output_names query.outputs)) whole ∙ names_stay known.queries query rest.own c.0;
+      same_set = ap (λ (qs : List ParameterQuery). same_names (names_of_parameters qs) (output_names query.outputs)) whole ∙ names_stay known.queries query rest.own c.0;
     } in
     record {
       own = query ∷ rest.own;
@@ -298,14 +298,14 @@ known_found known (written ∷ others) last h =
     }
 
 record AllKnownFound (warnings : List Warning) (all : List Written) (known : Known) : Type 0 where
-  are : AreParametersOf (names_of known.queries) all known.queries
+  are : AreParametersOf (names_of_parameters known.queries) all known.queries
   warned : known.warnings ≡ warnings ++ client_warnings all known.queries
 
 all_known_found : (warnings : List Warning) (all : List Written) (known : Known) → all_known (record { queries = []; warnings = warnings }) all ≡ Ok known → AllKnownFound warnings all known
 all_known_found warnings all known h =
     let k = known_found (record { queries = []; warnings = warnings }) all known h in
     record {
-      are = subst (AreParametersOf (names_of known.queries) all) (sym k.is) k.are;
+      are = subst (AreParametersOf (names_of_parameters known.queries) all) (sym k.is) k.are;
       warned = k.warned ∙ ap (λ (qs : List ParameterQuery). warnings ++ client_warnings all qs) (sym k.is);
     }
 
@@ -364,17 +364,17 @@ checked_found : (before : ℕ) (draft : Draft) (checked : Checked) → checked_o
 unfolding checked_of
 checked_found before draft checked h =
     let start : Known = record { queries = []; warnings = data_warning draft } in
-    let made : Known → List Planned → Checked = λ known planned. record { definition = record { name = draft.name; names = names_of known.queries; parameters = known.queries; queries = planned }; warnings = known.warnings } in
-    let a = both_ok (all_known start draft.parameters) (λ (known : Known). all_planned (names_of known.queries) before [] draft.queries >>= λ (planned : List Planned). Ok (made known planned)) checked h in
+    let made : Known → List Planned → Checked = λ known planned. record { definition = record { name = draft.name; names = names_of_parameters known.queries; parameters = known.queries; queries = planned }; warnings = known.warnings } in
+    let a = both_ok (all_known start draft.parameters) (λ (known : Known). all_planned (names_of_parameters known.queries) before [] draft.queries >>= λ (planned : List Planned). Ok (made known planned)) checked h in
     let known = a.0 in
-    let b = both_ok (all_planned (names_of known.queries) before [] draft.queries) (λ (planned : List Planned). Ok (made known planned)) checked a.2 in
+    let b = both_ok (all_planned (names_of_parameters known.queries) before [] draft.queries) (λ (planned : List Planned). Ok (made known planned)) checked a.2 in
     let k = all_known_found (data_warning draft) draft.parameters known a.1 in
     let is : CheckedFound before draft (made known b.0) = record {
       is = record {
         name = refl;
         names = refl;
         parameters = k.are;
-        queries = all_planned_found (names_of known.queries) before draft.queries b.0 b.1;
+        queries = all_planned_found (names_of_parameters known.queries) before draft.queries b.0 b.1;
       };
       warned = k.warned;
     } in

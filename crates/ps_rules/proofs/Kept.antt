@@ -22,10 +22,10 @@ use Rattle.ps_rules.specs.Faults.{◌>>=◌, refuse, sql}
 use Rattle.ps_definitions.specs.Names.{is_in, are_in, has_repeated, same_names, output_names, is_definition_name}
 use Rattle.ps_definitions.specs.Branches.{branches_of}
 use Rattle.ps_rules.specs.Shapes.{draft_names}
-use Rattle.ps_definitions.specs.Checks.{names_of, has_no_id, has_unknown, has_many_branches, is_matched}
+use Rattle.ps_definitions.specs.Checks.{names_of_parameters, has_no_id, has_unknown, has_many_branches, is_matched}
 use Rattle.ps_rules.specs.Checks.{is_mixed, client_warning, known_from, known_with, all_known, planned_from, planned_of, all_planned, data_warning, checked_of}
 use Rattle.ps_rules.specs.Reading.{with_checked, rules_from, no_rules}
-use Rattle.ps_definitions.specs.RuleSets.{RuleSet, IsSoundParameter, IsSoundQuery, IsSound, AreRules, rises_past, numbers_of}
+use Rattle.ps_definitions.specs.RuleSets.{RuleSet, IsSoundParameter, IsSoundQuery, IsSoundDefinition, AreRules, rises_past, all_query_numbers}
 use Rattle.ps_rules.specs.Drafts.{AreDrafts}
 use Rattle.ps_rules.proofs.Steps.{past, both_ok, same_ok}
 use Rattle.std.proofs.lemmas.List.{map-append}
@@ -83,7 +83,7 @@ same_self names = ap (λ b. b && are_in names names) (are_in_self names) ∙ are
 
 -- the queries that are known so far are sound
 abbrev KnownSound : List ParameterQuery → Type 0
-KnownSound queries = AllByRecursion (IsSoundParameter (names_of queries)) queries
+KnownSound queries = AllByRecursion (IsSoundParameter (names_of_parameters queries)) queries
 
 known_more : (queries : List ParameterQuery) (query : ParameterQuery) → KnownSound queries → has_repeated (output_names query.outputs) ≡ false → is_mixed queries (output_names query.outputs) ≡ false
     → query_speaks subjects.Bucket query.outputs query.condition ≡ false → KnownSound (queries ++ query ∷ [])
@@ -163,20 +163,20 @@ planned_all laws names before queries (written ∷ others) more h sound =
 
 record IsCheckedAs (before : ℕ) (draft : Draft) (definition : Definition) : Type 0 where
   name : definition.name ≡ draft.name
-  sound : is_definition_name draft.name ≡ true → IsSound definition
+  sound : is_definition_name draft.name ≡ true → IsSoundDefinition definition
   numbers : query_numbers definition.queries ≡ counted before draft.queries
 
 checked_step : SpeakAsTheyMay → (before : ℕ) (draft : Draft) (checked : Checked) → checked_of before draft ≡ Ok checked → IsCheckedAs before draft checked.definition
 unfolding checked_of
 checked_step laws before draft checked h =
     let start : Known = record { queries = []; warnings = data_warning draft } in
-    let a = both_ok (all_known start draft.parameters) (λ (known : Known). all_planned (names_of known.queries) before [] draft.queries >>= λ (planned : List Planned).
-    Ok (record { definition = record { name = draft.name; names = names_of known.queries; parameters = known.queries; queries = planned }; warnings = known.warnings })) checked h in
+    let a = both_ok (all_known start draft.parameters) (λ (known : Known). all_planned (names_of_parameters known.queries) before [] draft.queries >>= λ (planned : List Planned).
+    Ok (record { definition = record { name = draft.name; names = names_of_parameters known.queries; parameters = known.queries; queries = planned }; warnings = known.warnings })) checked h in
     let known = a.0 in
-    let b = both_ok (all_planned (names_of known.queries) before [] draft.queries) (λ (planned : List Planned).
-    Ok (record { definition = record { name = draft.name; names = names_of known.queries; parameters = known.queries; queries = planned }; warnings = known.warnings })) checked a.2 in
-    let made : Checked = record { definition = record { name = draft.name; names = names_of known.queries; parameters = known.queries; queries = b.0 }; warnings = known.warnings } in
-    let queries = planned_all laws (names_of known.queries) before [] draft.queries b.0 b.1 tt in
+    let b = both_ok (all_planned (names_of_parameters known.queries) before [] draft.queries) (λ (planned : List Planned).
+    Ok (record { definition = record { name = draft.name; names = names_of_parameters known.queries; parameters = known.queries; queries = planned }; warnings = known.warnings })) checked a.2 in
+    let made : Checked = record { definition = record { name = draft.name; names = names_of_parameters known.queries; parameters = known.queries; queries = b.0 }; warnings = known.warnings } in
+    let queries = planned_all laws (names_of_parameters known.queries) before [] draft.queries b.0 b.1 tt in
     let is : IsCheckedAs before draft made.definition = record {
       name = refl;
       sound = λ fits. record { name = fits; names = refl; parameters = known_all laws start draft.parameters known a.1 tt; queries = queries.0 };
@@ -212,8 +212,8 @@ upto_rises before (suc n) = let e : nat_lt before (before + 1) ≡ true = grind 
 record KeptSoFar (before : ℕ) (rules : RuleSet) (rest : List Draft) : Type 0 where
   differ : has_repeated (names_in rules.definitions ++ draft_names rest) ≡ false
   fit : list_all is_definition_name (draft_names rest) ≡ true
-  sound : AllByRecursion IsSound rules.definitions
-  numbers : numbers_of rules.definitions ≡ numbers_upto 0 before
+  sound : AllByRecursion IsSoundDefinition rules.definitions
+  numbers : all_query_numbers rules.definitions ≡ numbers_upto 0 before
 
 both_true : (a b : Bool) → (a && b) ≡ true → (a ≡ true) × (b ≡ true)
 both_true true true h = (refl, refl)
@@ -232,9 +232,9 @@ kept_more before rules draft rest checked is kept =
     record {
       differ = ap has_repeated names ∙ kept.differ;
       fit = fits.1;
-      sound = each_more IsSound rules.definitions d kept.sound (is.sound fits.0);
+      sound = each_more IsSoundDefinition rules.definitions d kept.sound (is.sound fits.0);
       numbers = flat_map-append (λ (x : Definition). query_numbers x.queries) rules.definitions (d ∷ [])
-          ∙ ap (λ ns. numbers_of rules.definitions ++ ns) (append_nil (query_numbers d.queries) ∙ is.numbers ∙ counted_is before draft.queries)
+          ∙ ap (λ ns. all_query_numbers rules.definitions ++ ns) (append_nil (query_numbers d.queries) ∙ is.numbers ∙ counted_is before draft.queries)
           ∙ ap (λ ns. ns ++ numbers_upto before (length draft.queries)) kept.numbers
           ∙ ap (λ k. numbers_upto 0 before ++ numbers_upto k (length draft.queries)) (sym (zero-add before))
           ∙ upto_append 0 before (length draft.queries);

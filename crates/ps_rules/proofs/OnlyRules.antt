@@ -20,8 +20,8 @@ use Rattle.ps_rules.specs.declared.faults.RulesFault.TheVariants as faults
 use Rattle.ps_rules.specs.Faults.{◌>>=◌, refuse, sql, Reads}
 use Rattle.ps_definitions.specs.Names.{is_in, has_repeated, same_names, output_names, is_definition_name}
 use Rattle.ps_definitions.specs.Branches.{branches_of}
-use Rattle.ps_rules.specs.Shapes.{layer_pairs, layer_written, written_of, all_written, layer_queries, queries_of, data_of, part_of, parts_of, no_parts, has_name, shape_fault, pair_fault, draft_of, draft_with, draft_names, drafts_from, definitions_of, sections_of, drafts_of}
-use Rattle.ps_definitions.specs.Checks.{names_of, has_no_id, has_unknown, has_many_branches, is_matched}
+use Rattle.ps_rules.specs.Shapes.{layer_pairs, layer_written, written_of, all_written, layer_queries, queries_of, data_queries, part_of, parts_of, no_parts, has_name, shape_fault, pair_fault, draft_of, draft_with, draft_names, drafts_from, definitions_of, sections_of, drafts_of}
+use Rattle.ps_definitions.specs.Checks.{names_of_parameters, has_no_id, has_unknown, has_many_branches, is_matched}
 use Rattle.ps_rules.specs.Checks.{is_mixed, client_warning, known_from, known_with, all_known, planned_from, planned_of, all_planned, data_warning, checked_of}
 use Rattle.ps_rules.specs.Reading.{with_checked, rules_from, rules_of, no_rules}
 use Rattle.ps_definitions.specs.RuleSets.{RuleSet}
@@ -54,7 +54,7 @@ queries_read : {node : Node} {all : List Written} → AreQueries node all → qu
 queries_read (single node written s) = ap layer_queries s.is
 queries_read (several node items line column all is s) = ap layer_queries is ∙ scalars_read s []
 
-data_reads : {node : Node} {all : List Written} → AreData node all → data_of node ≡ Ok all
+data_reads : {node : Node} {all : List Written} → AreData node all → data_queries node ≡ Ok all
 data_reads (no_data node empty) = ap (λ b. if b then Ok [] else queries_of node) empty
 data_reads (some_data node all filled q) = ap (λ b. if b then Ok [] else queries_of node) filled ∙ queries_read q
 
@@ -63,7 +63,7 @@ data_reads (some_data node all filled q) = ap (λ b. if b then Ok [] else querie
 -- what a pair adds, by its name
 abbrev part_named : Parts → Pair → List ℕ → Result Parts RulesFault
 part_named parts pair name =
-    if bytes_eq name (codes "data") then (data_of pair.node >>= λ queries. Ok (record parts { queries = queries }))
+    if bytes_eq name (codes "data") then (data_queries pair.node >>= λ queries. Ok (record parts { queries = queries }))
     else if bytes_eq name (codes "parameters") then (queries_of pair.node >>= λ queries. Ok (record parts { parameters = queries }))
     else if bytes_eq name (codes "accept_potentially_dangerous_queries") then (written_of pair.node >>= λ ignored. Ok parts)
     else Err (pair_fault pair)
@@ -145,12 +145,12 @@ document_reads node drafts d =
 -- ---- parameter queries
 
 -- a query has the names of those before it, where all have the same
-alike : (names : List (List ℕ)) (before own : List ParameterQuery) (query : ParameterQuery) → names_of (before ++ query ∷ own) ≡ names → same_names names (output_names query.outputs) ≡ true
+alike : (names : List (List ℕ)) (before own : List ParameterQuery) (query : ParameterQuery) → names_of_parameters (before ++ query ∷ own) ≡ names → same_names names (output_names query.outputs) ≡ true
     → is_mixed before (output_names query.outputs) ≡ false
 alike names [] own query first same = refl
 alike names (head ∷ before) own query first same = ap (λ ns. not (same_names ns (output_names query.outputs))) first ∙ ap not same
 
-known_read : {names : List (List ℕ)} {all : List Written} {own : List ParameterQuery} → AreParametersOf names all own → (known : Known) → names_of (known.queries ++ own) ≡ names
+known_read : {names : List (List ℕ)} {all : List Written} {own : List ParameterQuery} → AreParametersOf names all own → (known : Known) → names_of_parameters (known.queries ++ own) ≡ names
     → all_known known all ≡ Ok (record { queries = known.queries ++ own; warnings = known.warnings ++ client_warnings all own })
 unfolding known_with known_from
 known_read no_parameters known first =
@@ -166,7 +166,7 @@ known_read {names = names} (next_parameter written others query own is rest) kno
     ∙ unmet (faults.MixedOutput line column) (λ same. Ok (made query)) (alike names known.queries own query first is.same_set) in
     let queries = append_assoc known.queries (query ∷ []) own in
     let warnings = append_assoc known.warnings (client_warning written query) (client_warnings others own) in
-    on (λ (k : Known). all_known k others) step ∙ known_read rest (made query) (ap names_of queries ∙ first)
+    on (λ (k : Known). all_known k others) step ∙ known_read rest (made query) (ap names_of_parameters queries ∙ first)
     ∙ ap (λ (k : Known). Ok k) (λ i. record { queries = queries i; warnings = warnings i })
 
 -- ---- data queries
@@ -205,11 +205,11 @@ unfolding checked_of
 checked_reads before draft definition is =
     let warnings : List Warning = data_warning draft ++ client_warnings draft.parameters definition.parameters in
     let known : Known = record { queries = definition.parameters; warnings = warnings } in
-    let made : Known → List Planned → Checked = λ k planned. record { definition = record { name = draft.name; names = names_of k.queries; parameters = k.queries; queries = planned }; warnings = k.warnings } in
+    let made : Known → List Planned → Checked = λ k planned. record { definition = record { name = draft.name; names = names_of_parameters k.queries; parameters = k.queries; queries = planned }; warnings = k.warnings } in
     let name = sym is.name in let names = sym is.names in
     let same : made known definition.queries ≡ record { definition = definition; warnings = warnings } =
     λ i. record { definition = record { name = name i; names = names i; parameters = definition.parameters; queries = definition.queries }; warnings = warnings } in
-    on (λ (k : Known). all_planned (names_of k.queries) before [] draft.queries >>= λ (planned : List Planned). Ok (made k planned))
+    on (λ (k : Known). all_planned (names_of_parameters k.queries) before [] draft.queries >>= λ (planned : List Planned). Ok (made k planned))
     (known_read is.parameters (record { queries = []; warnings = data_warning draft }) names)
     ∙ on (λ (planned : List Planned). Ok (made known planned)) (ap (λ ns. all_planned ns before [] draft.queries) names ∙ planned_read is.queries [])
     ∙ ap (λ (c : Checked). Ok c) same

@@ -16,7 +16,7 @@ use Rattle.ps_rules.specs.declared.faults.RulesFault.TheVariants as faults
 use Rattle.ps_rules.specs.Faults.{◌>>=◌, refuse, sql}
 use Rattle.ps_definitions.specs.Names.{has_repeated, same_names, output_names}
 use Rattle.ps_definitions.specs.Branches.{asks_parameters, branches_of}
-use Rattle.ps_definitions.specs.Checks.{some_expr, names_of, has_no_id, has_unknown, has_many_branches, is_matched}
+use Rattle.ps_definitions.specs.Checks.{some_expr, names_of_parameters, has_no_id, has_unknown, has_many_branches, is_matched}
 
 -- ---- parameter queries
 
@@ -96,5 +96,5 @@ data_warning draft = if length draft.queries == 0 then record { kind = kinds.NoD
 unfoldable pub checked_of : ℕ → Draft → Result Checked RulesFault
 checked_of before draft = do
   known ← all_known (record { queries = []; warnings = data_warning draft }) draft.parameters
-  planned ← all_planned (names_of known.queries) before [] draft.queries
-  Ok (record { definition = record { name = draft.name; names = names_of known.queries; parameters = known.queries; queries = planned }; warnings = known.warnings })
+  planned ← all_planned (names_of_parameters known.queries) before [] draft.queries
+  Ok (record { definition = record { name = draft.name; names = names_of_parameters known.queries; parameters = known.queries; queries = planned }; warnings = known.warnings })

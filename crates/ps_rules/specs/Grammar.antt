@@ -15,7 +15,7 @@ use Rattle.ps_definitions.specs.declared.warnings.Warning.{Warning}
 use Rattle.ps_definitions.specs.Names.{has_repeated, same_names, output_names}
 use Rattle.ps_definitions.specs.Branches.{branches_of}
 use Rattle.ps_rules.specs.Shapes.{has_name, is_empty_scalar, no_parts}
-use Rattle.ps_definitions.specs.Checks.{names_of, has_no_id, has_unknown, has_many_branches, is_matched}
+use Rattle.ps_definitions.specs.Checks.{names_of_parameters, has_no_id, has_unknown, has_many_branches, is_matched}
 use Rattle.ps_rules.specs.Checks.{client_warning, data_warning}
 use Rattle.ps_definitions.specs.RuleSets.{RuleSet}
 use Rattle.ps_rules.specs.Drafts.{AreDrafts}
@@ -117,7 +117,7 @@ pub data AreQueriesOf (names : List (List ℕ)) : ℕ → List Written → List 
 -- the names of parameters are those of the outputs of the first parameter query
 pub record IsDefinition (before : ℕ) (draft : Draft) (definition : Definition) : Type 0 where
   pub name : definition.name ≡ draft.name
-  pub names : definition.names ≡ names_of definition.parameters
+  pub names : definition.names ≡ names_of_parameters definition.parameters
   pub parameters : AreParametersOf definition.names draft.parameters definition.parameters
   pub queries : AreQueriesOf definition.names before draft.queries definition.queries
 

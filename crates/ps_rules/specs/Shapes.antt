@@ -76,15 +76,15 @@ abbrev pub is_empty_scalar : Node → Bool
 is_empty_scalar node = layer_is_empty (out-Node node)
 
 -- an empty scalar as `data` is a list of none
-abbrev pub data_of : Node → Result (List Written) RulesFault
-data_of node = if is_empty_scalar node then Ok [] else queries_of node
+abbrev pub data_queries : Node → Result (List Written) RulesFault
+data_queries node = if is_empty_scalar node then Ok [] else queries_of node
 
 -- ---- definitions
 
 -- what a pair of a definition adds to those before it
 unfoldable pub part_of : Parts → Pair → Result Parts RulesFault
 part_of parts pair =
-    if bytes_eq pair.name (codes "data") then (data_of pair.node >>= λ queries. Ok (record parts { queries = queries }))
+    if bytes_eq pair.name (codes "data") then (data_queries pair.node >>= λ queries. Ok (record parts { queries = queries }))
     else if bytes_eq pair.name (codes "parameters") then (queries_of pair.node >>= λ queries. Ok (record parts { parameters = queries }))
     else if bytes_eq pair.name (codes "accept_potentially_dangerous_queries") then (written_of pair.node >>= λ ignored. Ok parts)
     else Err (pair_fault pair)

@@ -10,7 +10,7 @@ ghost use Rattle.ps_definitions.specs.declared.warnings.Warning.{Warning as Warn
 ghost use Rattle.ps_rules.specs.Faults.{Reads, sql, placed_fault};
 ghost use Rattle.ps_definitions.specs.Names.{is_in, are_in, has_repeated, output_names};
 ghost use Rattle.ps_definitions.specs.Branches.{mentions, has_parameter, asks_parameters as asks};
-ghost use Rattle.ps_definitions.specs.Checks.{some_expr, in_condition, names_of, has_no_id as lacks_id, has_unknown as knows_not, has_many_branches as has_many, is_bound as binds};
+ghost use Rattle.ps_definitions.specs.Checks.{some_expr, in_condition, names_of_parameters, has_no_id as lacks_id, has_unknown as knows_not, has_many_branches as has_many, is_bound as binds};
 ghost use Rattle.ps_rules.specs.Checks.{is_mixed as mixes, client_warning, known_by, known_after, known_from, known_with, all_known, planned_with, planned_from, planned_of, all_planned, data_warning, checked_of};
 
 use crate::RulesFault;
@@ -18,10 +18,7 @@ use crate::drafts::{Checked, Draft, Known, Written};
 use crate::name_sets::NameSet;
 use crate::walks::{asks_parameters, has_unknown};
 use ps_data::{Items, Memory, Text};
-use ps_definitions::{
-    Branch, Definition, MOST_BRANCHES, Match, Planned, Warning, WarningKind, branches_of,
-    count_branches,
-};
+use ps_definitions::{Branch, Definition, MOST_BRANCHES, Match, Planned, Warning, WarningKind, branches_of, count_branches};
 use ps_queries::{DataQuery, Expr, Output, ParameterQuery, Subject};
 use ps_sql::{SqlFault, read_data_query, read_parameter_query};
 use std::alloc::Global;
@@ -75,7 +72,7 @@ fn names_of_outputs(alloc: Global, outputs: &[Output]) -> Result<NameSet, Memory
 
 // The names of parameters: those of the first query's outputs.
 fn parameter_names(alloc: Global, queries: &[ParameterQuery]) -> Result<NameSet, Memory>
-    ensures { IfOk result (λ names. names ≡ names_of queries.now) }
+    ensures { IfOk result (λ names. names ≡ names_of_parameters queries.now) }
 {
     match queries {
         [first, ..] => names_of_outputs(alloc, first.outputs.as_slice()),

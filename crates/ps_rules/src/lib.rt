@@ -10,9 +10,5 @@ mod shapes;
 mod walks;
 
 pub use faults::RulesFault;
-pub use ps_definitions::{
-    Branch, Definition, Match, Planned, Rules, Warning, WarningKind, bucket_name,
-    conditions_hold_where_a_branch_is_met, have_64_bits, names_are_distinct, null_is_not_allowed,
-    spread_as_written,
-};
+pub use ps_definitions::{Branch, Definition, Match, Planned, Rules, Warning, WarningKind, bucket_name, have_64_bits};
 pub use reading::read_rules;

@@ -15,7 +15,6 @@ use crate::drafts::{Checked, Draft};
 use crate::shapes::drafts_in;
 use ps_data::{Items, Memory};
 use ps_definitions::{Rules, Warning};
-use ps_sql::queries_speak_as_they_may;
 use ps_yaml::{Node, YamlFault, places_rise, read_yaml};
 use std::alloc::Global;
 
@@ -69,7 +68,7 @@ fn check_all(alloc: Global, drafts: Items<Draft>) -> Result<Rules, RulesFault>
     requires { AreDrafts drafts }
     ensures { Reads result (rules_from 0 no_rules drafts) }
 {
-    queries_speak_as_they_may();
+    ps_sql::laws::queries_speak_as_they_may();
     let mut definitions = Items::new(alloc);
     let mut warnings = Items::new(alloc);
     let mut before = 0;

@@ -2,7 +2,7 @@ ghost use Rattle.std.specs.Prelude.{◌≡◌, []};
 ghost use Rattle.std.specs.List.{list_all};
 ghost use Rattle.ps_rules.specs.Faults.{Reads};
 ghost use Rattle.ps_definitions.specs.Names.{is_definition_name as fits_name, begins_word as begins_name, is_in_word as continues_name};
-ghost use Rattle.ps_rules.specs.Shapes.{shape_fault, is_empty_scalar, pairs_of as pairs_in, has_name as has_pair, written_of as written_in, all_written, queries_of as queries_in, data_of as data_in, part_of, parts_of as parts_in, no_parts, draft_of, draft_with, drafts_from, definitions_of as definitions_in, sections_of, drafts_of};
+ghost use Rattle.ps_rules.specs.Shapes.{shape_fault, is_empty_scalar, pairs_of as pairs_in, has_name as has_pair, written_of as written_in, all_written, queries_of as queries_in, data_queries as data_in, part_of, parts_of as parts_in, no_parts, draft_of, draft_with, drafts_from, definitions_of as definitions_in, sections_of, drafts_of};
 
 use crate::RulesFault;
 use crate::drafts::{Draft, Parts, Written};

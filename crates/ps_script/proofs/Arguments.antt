@@ -13,28 +13,28 @@ use Rattle.std.proofs.lemmas.Str.Ascii.{IsAscii-nil, IsAscii-cons}
 use Rattle.ps_values.specs.Laws.{ReadsWhatIsWritten}
 use Rattle.ps_data.specs.Numbers.{decimal_of, is_decimal, begins_plainly, greatest}
 use Rattle.ps_script.proofs.Tests.{both, held}
-use Rattle.ps_script.specs.Words.{IsCount, IsName, text_of, within_count, count_of, is_name, name_of}
+use Rattle.ps_script.specs.Words.{IsCount, IsName, utf8_text, within_count, count_word, is_name, name_text}
 
 -- ---- texts
 
-pub text_only : (bytes : List ℕ) → IsUtf8 bytes → text_of bytes ≡ Some bytes
+pub text_only : (bytes : List ℕ) → IsUtf8 bytes → utf8_text bytes ≡ Some bytes
 text_only bytes h = rw (is_utf8-from_IsUtf8 bytes h) refl
 
-pub text_is : (bytes text : List ℕ) → text ≡ bytes → IsUtf8 bytes → text_of bytes ≡ Some text
+pub text_is : (bytes text : List ℕ) → text ≡ bytes → IsUtf8 bytes → utf8_text bytes ≡ Some text
 text_is bytes text e h = text_only bytes h ∙ ap Some (sym e)
 
 by_test : (b : Bool) (bytes : List ℕ) → (b ≡ true → ⊥) → ◌≡◌ {A = Option (List ℕ)} (cond b (Some bytes) None) None
 by_test true bytes h = absurd (h refl)
 by_test false bytes h = refl
 
-pub no_text : (bytes : List ℕ) → ¬ IsUtf8 bytes → text_of bytes ≡ None
+pub no_text : (bytes : List ℕ) → ¬ IsUtf8 bytes → utf8_text bytes ≡ None
 no_text bytes h = by_test (is_utf8 bytes) bytes (λ e. h (IsUtf8-from_is_utf8 bytes e))
 
 -- a text does not fail the test
 pub is_text : (bytes : List ℕ) → IsUtf8 bytes → is_utf8 bytes ≡ false → ⊥
 is_text bytes h none = let there : is_utf8 bytes ≡ true = is_utf8-from_IsUtf8 bytes h in cc
 
-pub text_found : (bytes text : List ℕ) → text_of bytes ≡ Some text → (bytes ≡ text) × IsUtf8 bytes
+pub text_found : (bytes text : List ℕ) → utf8_text bytes ≡ Some text → (bytes ≡ text) × IsUtf8 bytes
 text_found bytes text h =
     let own = cond_some (is_utf8 bytes) bytes text h in
     (own.1, IsUtf8-from_is_utf8 bytes own.0)
@@ -80,16 +80,16 @@ within_is n m h =
     let high : n ≤ 1000000 = grind (arith, nat_tests, tests.1) in
     ((low, high), own.1)
 
-pub count_only : ReadsWhatIsWritten → (n : ℕ) → IsCount n → count_of (decimal n) ≡ Some n
+pub count_only : ReadsWhatIsWritten → (n : ℕ) → IsCount n → count_word (decimal n) ≡ Some n
 count_only law n h =
     let small : n ≤ greatest = omega (arith, h.1) in
     let read : decimal_of (decimal n) ≡ Some n = (law (decimal n) n).1 (small, refl) in
     ap (λ o. option_and_then within_count (option_and_then decimal_of o)) (text_only (decimal n) (decimal_ascii (decimal n) n read)) ∙ ap (option_and_then within_count) read ∙ count_within n h
 
-pub count_found : ReadsWhatIsWritten → (bytes : List ℕ) (n : ℕ) → count_of bytes ≡ Some n → IsCount n × (bytes ≡ decimal n)
+pub count_found : ReadsWhatIsWritten → (bytes : List ℕ) (n : ℕ) → count_word bytes ≡ Some n → IsCount n × (bytes ≡ decimal n)
 count_found law bytes n h =
-    option_and_then_some within_count (option_and_then decimal_of (text_of bytes)) n h (λ m read within.
-    option_and_then_some decimal_of (text_of bytes) m read (λ text is number.
+    option_and_then_some within_count (option_and_then decimal_of (utf8_text bytes)) n h (λ m read within.
+    option_and_then_some decimal_of (utf8_text bytes) m read (λ text is number.
     let own = within_is m n within in
     let spelled = (law text m).0 number in
     (subst IsCount own.1 own.0, (text_found bytes text is).0 ∙ spelled.1 ∙ ap decimal own.1)))
@@ -106,15 +106,15 @@ some_bytes (b ∷ bs) h = grind (arith, nat_tests)
 no_bytes : (bs : List ℕ) → nat_lt 0 (length bs) ≡ true → bs ≢ []
 no_bytes bs h e = let none : nat_lt 0 0 ≡ true = ap (λ xs. nat_lt 0 (length xs)) (sym e) ∙ h in grind (arith, nat_tests)
 
-pub name_only : (name : List ℕ) → IsName name → name_of name ≡ Some name
+pub name_only : (name : List ℕ) → IsName name → name_text name ≡ Some name
 name_only name h =
     let plain : list_all is_ascii_alphanumeric name ≡ true = (letters name).1 h.plain in
     let some : nat_lt 0 (length name) ≡ true = some_bytes name h.some in
     rw (some, plain) (text_only name (IsUtf8-from_ascii name (letters_ascii name plain)))
 
-pub name_found : (bytes name : List ℕ) → name_of bytes ≡ Some name → (bytes ≡ name) × IsName name
+pub name_found : (bytes name : List ℕ) → name_text bytes ≡ Some name → (bytes ≡ name) × IsName name
 name_found bytes name h =
-    let own = held (is_name bytes) (text_of bytes) name h in
+    let own = held (is_name bytes) (utf8_text bytes) name h in
     let tests = both (nat_lt 0 (length bytes)) (list_all is_ascii_alphanumeric bytes) own.0 in
     let same = (text_found bytes name own.1).0 in
     (same, subst IsName same (record { some = no_bytes bytes tests.0; plain = (letters bytes).0 tests.1 }))

@@ -16,9 +16,9 @@ use Rattle.ps_script.specs.declared.events.ScriptEvent.TheVariants as events
 use Rattle.ps_script.specs.declared.verbs.Verb.{Verb}
 use Rattle.ps_script.specs.declared.verbs.Verb.TheVariants.{Open, Turn, Take, Cut, Alter, Upload, Number, Rows}
 use Rattle.ps_file_lines.specs.Cuts.{cut}
-use Rattle.ps_script.specs.Words.{IsName, text_of, count_of, name_of}
+use Rattle.ps_script.specs.Words.{IsName, utf8_text, count_word, name_text}
 use Rattle.ps_script.specs.Verbs.{verb_of, event_by}
-use Rattle.ps_script.specs.Events.{read_or_none, change_in, alone, named, client_in, local_in, behind, by_words, event_of}
+use Rattle.ps_script.specs.Events.{read_or_none, change_in, alone, client_event, client_in, local_in, event_behind, by_words, event_of}
 use Rattle.ps_script.specs.Grammar.{IsEvent, feeds, closes, writes, commits, compacts, begins_client, opens, turns, takes, cuts, alters, changes_locally, uploads, numbers, shows_rows, sums_up, deploys, builds, switches, abandons}
 use Rattle.ps_script.proofs.Cutting.{cut_joins}
 use Rattle.ps_script.proofs.Arguments.{text_found, count_found, name_found}
@@ -69,10 +69,10 @@ verb_found verb word name named h =
     choose (bytes_eq word (codes "rows")) _ _ verb h (λ is e. verb_is word (codes "rows") Rows verb name is e (shows_rows name named)) (λ h.
     absurd (cc)))))))))
 
-named_found : (word rest : List ℕ) (event : ScriptEvent) → named word rest ≡ Some event → IsEvent (word ++ 32 ∷ rest) event
+named_found : (word rest : List ℕ) (event : ScriptEvent) → client_event word rest ≡ Some event → IsEvent (word ++ 32 ∷ rest) event
 named_found word rest event h =
-    option_and_then_some (λ verb. option_map (event_by verb) (name_of rest)) (verb_of word) event h (λ verb is more.
-    mapped (event_by verb) (name_of rest) event more (λ name read same.
+    option_and_then_some (λ verb. option_map (event_by verb) (name_text rest)) (verb_of word) event h (λ verb is more.
+    mapped (event_by verb) (name_text rest) event more (λ name read same.
     let own = name_found rest name read in
     subst (IsEvent (word ++ 32 ∷ rest)) same (subst (λ r. IsEvent (word ++ 32 ∷ r) (event_by verb name)) (sym own.0) (verb_found verb word name own.1 is))))
 
@@ -94,7 +94,7 @@ Joined rest name behind = MatchOption behind (rest ≡ name) (λ more. rest ≡ 
 client_found : (rest name : List ℕ) (behind : Option (List ℕ)) (event : ScriptEvent) → Joined rest name behind → client_in name behind ≡ Some event → IsEvent (codes "client " ++ rest) event
 client_found rest name None event is h = absurd (cc)
 client_found rest name (Some claims) event is h =
-    option_and_then_some (λ n. option_map (events.Client n) (asker_of_claims claims)) (name_of name) event h (λ n read more.
+    option_and_then_some (λ n. option_map (events.Client n) (asker_of_claims claims)) (name_text name) event h (λ n read more.
     mapped (events.Client n) (asker_of_claims claims) event more (λ asker known same.
     let own = name_found name n read in
     let here = subst (λ t. IsEvent (codes "client " ++ t) (events.Client n asker)) (append_assoc n (codes " ") claims) (begins_client n claims asker own.1 known) in
@@ -104,7 +104,7 @@ client_found rest name (Some claims) event is h =
 local_found : ReadsLoneChanges → (rest name : List ℕ) (behind : Option (List ℕ)) (event : ScriptEvent) → Joined rest name behind → local_in name behind ≡ Some event → IsEvent (codes "local " ++ rest) event
 local_found changes rest name None event is h = absurd (cc)
 local_found changes rest name (Some text) event is h =
-    option_and_then_some (λ n. option_map (events.Local n) (change_in text)) (name_of name) event h (λ n read more.
+    option_and_then_some (λ n. option_map (events.Local n) (change_in text)) (name_text name) event h (λ n read more.
     mapped (events.Local n) (change_in text) event more (λ change known same.
     let own = name_found name n read in
     let here = subst (λ t. IsEvent (codes "local " ++ t) (events.Local n change)) (append_assoc n (codes " ") text) (changes_locally n text change own.1 (change_found changes text change known)) in
@@ -113,31 +113,31 @@ local_found changes rest name (Some text) event is h =
 
 -- ---- lines
 
-feed_found : ReadsWhatIsWritten → (rest : List ℕ) (event : ScriptEvent) → option_map events.Feed (count_of rest) ≡ Some event → IsEvent (codes "feed " ++ rest) event
+feed_found : ReadsWhatIsWritten → (rest : List ℕ) (event : ScriptEvent) → option_map events.Feed (count_word rest) ≡ Some event → IsEvent (codes "feed " ++ rest) event
 feed_found law rest event h =
-    mapped events.Feed (count_of rest) event h (λ n read same.
+    mapped events.Feed (count_word rest) event h (λ n read same.
     let own = count_found law rest n read in
     subst (IsEvent (codes "feed " ++ rest)) same (subst (λ r. IsEvent (codes "feed " ++ r) (events.Feed n)) (sym own.1) (feeds n own.0)))
 
-write_found : ReadsWhatIsWritten → (rest : List ℕ) (event : ScriptEvent) → option_map events.Write (count_of rest) ≡ Some event → IsEvent (codes "write " ++ rest) event
+write_found : ReadsWhatIsWritten → (rest : List ℕ) (event : ScriptEvent) → option_map events.Write (count_word rest) ≡ Some event → IsEvent (codes "write " ++ rest) event
 write_found law rest event h =
-    mapped events.Write (count_of rest) event h (λ n read same.
+    mapped events.Write (count_word rest) event h (λ n read same.
     let own = count_found law rest n read in
     subst (IsEvent (codes "write " ++ rest)) same (subst (λ r. IsEvent (codes "write " ++ r) (events.Write n)) (sym own.1) (writes n own.0)))
 
-build_found : ReadsWhatIsWritten → (rest : List ℕ) (event : ScriptEvent) → option_map events.Build (count_of rest) ≡ Some event → IsEvent (codes "build " ++ rest) event
+build_found : ReadsWhatIsWritten → (rest : List ℕ) (event : ScriptEvent) → option_map events.Build (count_word rest) ≡ Some event → IsEvent (codes "build " ++ rest) event
 build_found law rest event h =
-    mapped events.Build (count_of rest) event h (λ n read same.
+    mapped events.Build (count_word rest) event h (λ n read same.
     let own = count_found law rest n read in
     subst (IsEvent (codes "build " ++ rest)) same (subst (λ r. IsEvent (codes "build " ++ r) (events.Build n)) (sym own.1) (builds n own.0)))
 
-compact_found : (rest : List ℕ) (event : ScriptEvent) → option_map events.Compact (text_of rest) ≡ Some event → IsEvent (codes "compact " ++ rest) event
+compact_found : (rest : List ℕ) (event : ScriptEvent) → option_map events.Compact (utf8_text rest) ≡ Some event → IsEvent (codes "compact " ++ rest) event
 compact_found rest event h =
-    mapped events.Compact (text_of rest) event h (λ bucket read same.
+    mapped events.Compact (utf8_text rest) event h (λ bucket read same.
     let own = text_found rest bucket read in
     subst (IsEvent (codes "compact " ++ rest)) (ap events.Compact own.0 ∙ same) (compacts rest own.1))
 
-behind_found : ReadsWhatIsWritten → ReadsLoneChanges → (word rest : List ℕ) (event : ScriptEvent) → behind word rest ≡ Some event → IsEvent (word ++ 32 ∷ rest) event
+behind_found : ReadsWhatIsWritten → ReadsLoneChanges → (word rest : List ℕ) (event : ScriptEvent) → event_behind word rest ≡ Some event → IsEvent (word ++ 32 ∷ rest) event
 behind_found law changes word rest event h =
     choose (bytes_eq word (codes "feed")) _ _ event h (λ is e. spelled_with word (codes "feed") rest event is (feed_found law rest event e)) (λ h.
     choose (bytes_eq word (codes "write")) _ _ event h (λ is e. spelled_with word (codes "write") rest event is (write_found law rest event e)) (λ h.

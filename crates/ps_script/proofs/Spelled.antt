@@ -12,7 +12,7 @@ use Rattle.ps_script.specs.declared.events.ScriptEvent.TheVariants.{Feed, Write,
 use Rattle.ps_script.specs.declared.verbs.Verb.{Verb}
 use Rattle.ps_script.specs.declared.verbs.Verb.TheVariants.{Open, Turn, Take, Cut, Alter, Upload, Number, Rows}
 use Rattle.ps_file_lines.specs.Cuts.{cut}
-use Rattle.ps_script.specs.Words.{IsName, name_of}
+use Rattle.ps_script.specs.Words.{IsName, name_text}
 use Rattle.ps_script.specs.Verbs.{event_by}
 use Rattle.ps_script.specs.Events.{read_or_none, change_in, client_in, local_in, event_of}
 use Rattle.ps_script.specs.Grammar.{IsEvent, feeds, closes, writes, commits, compacts, begins_client, opens, turns, takes, cuts, alters, changes_locally, uploads, numbers, shows_rows, sums_up, deploys, builds, switches, abandons}
@@ -32,7 +32,7 @@ local_only : ReadsLoneChanges → (name text : List ℕ) (change : Change) → I
 local_only changes name text change named is =
     rw (cut_behind 32 name text (name_has_no_space name named), name_only name named, change_only changes text change is) refl
 
-verb_only : (verb : Verb) (name : List ℕ) → IsName name → option_map (event_by verb) (name_of name) ≡ Some (event_by verb name)
+verb_only : (verb : Verb) (name : List ℕ) → IsName name → option_map (event_by verb) (name_text name) ≡ Some (event_by verb name)
 verb_only verb name h = ap (option_map (event_by verb)) (name_only name h)
 
 pub event_only : ReadsWhatIsWritten → ReadsLoneChanges → {line : List ℕ} {event : ScriptEvent} → IsEvent line event → event_of line ≡ Some event

@@ -10,7 +10,7 @@ use Rattle.ps_script.specs.declared.events.ScriptEvent.TheVariants.{Feed, Close,
 use Rattle.ps_script.specs.Grammar.{IsEvent}
 use Rattle.ps_script.specs.Verbs.{verb_of, event_by}
 use Rattle.ps_file_lines.specs.Cuts.{cut}
-use Rattle.ps_script.specs.Words.{text_of, count_of, name_of}
+use Rattle.ps_script.specs.Words.{utf8_text, count_word, name_text}
 
 infixl 10 ◌>>=◌
 abbrev pub ◌>>=◌ : {A B : Type 0} → Option A → (A → Option B) → Option B
@@ -34,33 +34,33 @@ alone word =
     if bytes_eq word (codes "abandon") then Some Abandon else None
 
 -- a word and a client's name
-abbrev pub named : List ℕ → List ℕ → Option ScriptEvent
-named word rest = verb_of word >>= λ verb. option_map (event_by verb) (name_of rest)
+abbrev pub client_event : List ℕ → List ℕ → Option ScriptEvent
+client_event word rest = verb_of word >>= λ verb. option_map (event_by verb) (name_text rest)
 
 -- a client's name, and claims after a space
 abbrev pub client_in : List ℕ → Option (List ℕ) → Option ScriptEvent
 client_in name None = None
-client_in name (Some claims) = name_of name >>= λ name. option_map (Client name) (asker_of_claims claims)
+client_in name (Some claims) = name_text name >>= λ name. option_map (Client name) (asker_of_claims claims)
 
 -- a client's name, and a change after a space
 abbrev pub local_in : List ℕ → Option (List ℕ) → Option ScriptEvent
 local_in name None = None
-local_in name (Some text) = name_of name >>= λ name. option_map (Local name) (change_in text)
+local_in name (Some text) = name_text name >>= λ name. option_map (Local name) (change_in text)
 
 -- a word and what stands behind the space after it
-abbrev pub behind : List ℕ → List ℕ → Option ScriptEvent
-behind word rest =
-    if bytes_eq word (codes "feed") then option_map Feed (count_of rest) else
-    if bytes_eq word (codes "write") then option_map Write (count_of rest) else
-    if bytes_eq word (codes "build") then option_map Build (count_of rest) else
-    if bytes_eq word (codes "compact") then option_map Compact (text_of rest) else
+abbrev pub event_behind : List ℕ → List ℕ → Option ScriptEvent
+event_behind word rest =
+    if bytes_eq word (codes "feed") then option_map Feed (count_word rest) else
+    if bytes_eq word (codes "write") then option_map Write (count_word rest) else
+    if bytes_eq word (codes "build") then option_map Build (count_word rest) else
+    if bytes_eq word (codes "compact") then option_map Compact (utf8_text rest) else
     if bytes_eq word (codes "client") then client_in (cut 32 rest).0 (cut 32 rest).1 else
     if bytes_eq word (codes "local") then local_in (cut 32 rest).0 (cut 32 rest).1 else
-    named word rest
+    client_event word rest
 
 abbrev pub by_words : List ℕ → Option (List ℕ) → Option ScriptEvent
 by_words word None = alone word
-by_words word (Some rest) = behind word rest
+by_words word (Some rest) = event_behind word rest
 
 unfoldable pub event_of : List ℕ → Option ScriptEvent
 event_of line = by_words (cut 32 line).0 (cut 32 line).1

@@ -21,20 +21,20 @@ pub record IsName (name : List ℕ) : Type 0 where
 -- ---- how it is read
 
 -- bytes that are text
-abbrev pub text_of : List ℕ → Option (List ℕ)
-text_of bytes = if is_utf8 bytes then Some bytes else None
+abbrev pub utf8_text : List ℕ → Option (List ℕ)
+utf8_text bytes = if is_utf8 bytes then Some bytes else None
 
 abbrev pub within_count : ℕ → Option ℕ
 within_count n = if nat_lt 0 n && nat_le n 1000000 then Some n else None
 
-abbrev pub count_of : List ℕ → Option ℕ
-count_of bytes = option_and_then within_count (option_and_then decimal_of (text_of bytes))
+abbrev pub count_word : List ℕ → Option ℕ
+count_word bytes = option_and_then within_count (option_and_then decimal_of (utf8_text bytes))
 
 abbrev pub is_name : List ℕ → Bool
 is_name bytes = nat_lt 0 (length bytes) && list_all is_ascii_alphanumeric bytes
 
-abbrev pub name_of : List ℕ → Option (List ℕ)
-name_of bytes = if is_name bytes then text_of bytes else None
+abbrev pub name_text : List ℕ → Option (List ℕ)
+name_text bytes = if is_name bytes then utf8_text bytes else None
 
 -- ---- answers
 

@@ -1,12 +1,9 @@
 ghost use Rattle.ps_script.specs.Events.{ReadsWhatIsSpelled};
 
-use ps_changes::lone_changes_are_spelled;
-use ps_values::decimals_read_back;
-
 /// A law: the event that a line is, as a function, is the one that the grammar spells.
 pub fn events_are_spelled()
     ensures { ReadsWhatIsSpelled }
 {
-    decimals_read_back();
-    lone_changes_are_spelled();
+    ps_values::laws::decimals_read_back();
+    ps_changes::laws::lone_changes_are_spelled();
 }

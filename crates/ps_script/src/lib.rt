@@ -3,7 +3,7 @@
 
 mod events;
 mod faults;
-mod laws;
+pub mod laws;
 mod lines;
 mod parts;
 mod reading;
@@ -11,7 +11,6 @@ mod verbs;
 
 pub use events::ScriptEvent;
 pub use faults::ScriptFault;
-pub use laws::events_are_spelled;
 pub use lines::is_skipped;
 pub use ps_file_lines::{is_blank, split_line};
 pub use reading::read_event;

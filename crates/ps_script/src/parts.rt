@@ -5,7 +5,7 @@ ghost use Rattle.std.specs.Char.{is_ascii_alphanumeric};
 ghost use Rattle.std.specs.List.{list_all};
 ghost use Rattle.std.specs.Str.{is_utf8};
 ghost use Rattle.ps_script.specs.Refusals.{RefusesUnless};
-ghost use Rattle.ps_script.specs.Words.{Reads, count_of, text_of, name_of, is_name as is_name_of};
+ghost use Rattle.ps_script.specs.Words.{Reads, count_word, utf8_text, name_text, is_name as is_name_of};
 
 use crate::ScriptFault;
 use ps_data::{Memory, Text};
@@ -17,7 +17,7 @@ const GREATEST_COUNT: u64 = 1_000_000;
 
 /// Bytes that are text.
 pub fn read_text(alloc: Global, bytes: &[u8]) -> Result<Text, ScriptFault>
-    ensures exact { Reads result (text_of bytes.now) }
+    ensures exact { Reads result (utf8_text bytes.now) }
     ensures refused { RefusesUnless (is_utf8 bytes.now) result }
 {
     match str::from_utf8(bytes) {
@@ -31,7 +31,7 @@ pub fn read_text(alloc: Global, bytes: &[u8]) -> Result<Text, ScriptFault>
 
 /// A number from 1 to 1,000,000.
 pub fn read_count(alloc: Global, bytes: &[u8]) -> Result<u32, ScriptFault>
-    ensures exact { Reads result (count_of bytes.now) }
+    ensures exact { Reads result (count_word bytes.now) }
     ensures refused { RefusesUnless (is_utf8 bytes.now) result }
 {
     let text = read_text(alloc, bytes)?;
@@ -57,7 +57,7 @@ pub fn is_name(bytes: &[u8]) -> bool
 
 /// A client's name.
 pub fn read_name(alloc: Global, bytes: &[u8]) -> Result<Text, ScriptFault>
-    ensures exact { Reads result (name_of bytes.now) }
+    ensures exact { Reads result (name_text bytes.now) }
     ensures refused { RefusesUnless (is_name_of bytes.now) result }
 {
     if !is_name(bytes) {

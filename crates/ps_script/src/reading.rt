@@ -1,17 +1,16 @@
 ghost use Rattle.std.specs.Prelude.{Some, IfOk, is_some, nat_le, length, ◌&&◌};
 ghost use Rattle.ps_changes.specs.Lines.{longest};
 ghost use Rattle.ps_script.specs.declared.events.ScriptEvent.{ScriptEvent as ScriptEventData};
-ghost use Rattle.ps_script.specs.Events.{alone as event_alone, named as named_in, client_in, local_in, behind as event_behind, event_of, change_in};
+ghost use Rattle.ps_script.specs.Events.{alone as event_alone, client_event as named_in, client_in, local_in, event_behind as event_behind, event_of, change_in};
 ghost use Rattle.ps_script.specs.Grammar.{IsEvent};
 ghost use Rattle.ps_script.specs.Refusals.{RefusesUnless, RefusesOtherWords, has_claims, has_change, may_follow};
 ghost use Rattle.ps_script.specs.Verbs.{verb_of};
 ghost use Rattle.ps_file_lines.specs.Cuts.{cut as cut_at};
 ghost use Rattle.ps_script.specs.Words.{Reads, is_name as is_name_of};
 
-use crate::laws::events_are_spelled;
 use crate::parts::{is_name, read_count, read_name, read_text};
 use crate::verbs::read_verb;
-use crate::{ScriptEvent, ScriptFault};
+use crate::{ScriptEvent, ScriptFault, laws};
 use ps_changes::{ChangeFault, read_change};
 use ps_claims::read_claims;
 use ps_file_lines::cut;
@@ -33,7 +32,7 @@ pub fn read_event(alloc: Global, line: &[u8]) -> Result<ScriptEvent, ScriptFault
     // A line without the words of an event is refused before any memory is asked for.
     ensures other_words { RefusesOtherWords line.now result }
 {
-    events_are_spelled();
+    laws::events_are_spelled();
     match cut(line, b' ') {
         (word, None) => alone(word),
         (word, Some(rest)) => behind(alloc, word, rest),

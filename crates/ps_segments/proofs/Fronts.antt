@@ -7,7 +7,7 @@ use Rattle.ps_bucket_log.specs.declared.ops.Op.{Op}
 use Rattle.ps_bucket_log.specs.Ops.{id_of, is_clear, has_clear, newest}
 use Rattle.ps_bucket_log.specs.Logs.{IsRising, IsLog, rest}
 use Rattle.ps_segments.specs.declared.entries.Entry.{Entry}
-use Rattle.ps_segments.specs.Segmented.{ops_of, entries_of}
+use Rattle.ps_segments.specs.Segmented.{entry_ops, all_entries}
 use Rattle.ps_segments.proofs.Orders.{IsRising-front}
 use Rattle.ps_segments.proofs.Cutting.{ops_of-append}
 use Rattle.ps_segments.proofs.Walking.{entries-here, drop-length}
@@ -37,21 +37,21 @@ IsLog-front xs op ys log = record {
 
 -- one more entry of a run is copied
 pub copied_more : (before : List Op) (run : List Entry) (i : ℕ) (e : Entry) → i < length run → e ≡ get_or run i e
-    → before ++ ops_of (take (i + 1) run) ≡ (before ++ ops_of (take i run)) ++ e.op ∷ []
+    → before ++ entry_ops (take (i + 1) run) ≡ (before ++ entry_ops (take i run)) ++ e.op ∷ []
 copied_more before run i e within is =
-    ap (λ (es : List Entry). before ++ ops_of es) (take_more run i e within ∙ ap (λ x. take i run ++ x ∷ []) (sym is))
+    ap (λ (es : List Entry). before ++ entry_ops es) (take_more run i e within ∙ ap (λ x. take i run ++ x ∷ []) (sym is))
     ∙ ap (λ (ops : List Op). before ++ ops) (ops_of-append (take i run) (e ∷ []))
-    ∙ sym (append_assoc before (ops_of (take i run)) (e.op ∷ []))
+    ∙ sym (append_assoc before (entry_ops (take i run)) (e.op ∷ []))
 
 -- one more segment is copied
 pub copied_on : (all : List Op) (i : ℕ) (sealed : List (List Entry)) (growing s : List Entry) → i < length sealed → s ≡ get_or sealed i s
-    → (all ++ ops_of s) ++ ops_of (entries_of (drop (i + 1) sealed) growing) ≡ all ++ ops_of (entries_of (drop i sealed) growing)
+    → (all ++ entry_ops s) ++ entry_ops (all_entries (drop (i + 1) sealed) growing) ≡ all ++ entry_ops (all_entries (drop i sealed) growing)
 copied_on all i sealed growing s within is =
-    append_assoc all (ops_of s) (ops_of (entries_of (drop (i + 1) sealed) growing))
-    ∙ ap (λ (ops : List Op). all ++ ops) (sym (ap ops_of (entries-here i sealed growing s within is) ∙ ops_of-append s (entries_of (drop (i + 1) sealed) growing)))
+    append_assoc all (entry_ops s) (entry_ops (all_entries (drop (i + 1) sealed) growing))
+    ∙ ap (λ (ops : List Op). all ++ ops) (sym (ap entry_ops (entries-here i sealed growing s within is) ∙ ops_of-append s (all_entries (drop (i + 1) sealed) growing)))
 
-pub copied_all : (n : ℕ) (sealed : List (List Entry)) (growing : List Entry) → n ≡ length sealed → entries_of (drop n sealed) growing ≡ growing
-copied_all n sealed growing end = ap (λ (ss : List (List Entry)). entries_of ss growing) (drop-length sealed n end)
+pub copied_all : (n : ℕ) (sealed : List (List Entry)) (growing : List Entry) → n ≡ length sealed → all_entries (drop n sealed) growing ≡ growing
+copied_all n sealed growing end = ap (λ (ss : List (List Entry)). all_entries ss growing) (drop-length sealed n end)
 
 -- an operation past the newest keeps a log a log
 IsRising-push : (p : ℕ) (ops : List Op) (op : Op) → IsRising p ops → fold (λ a x. id_of x) p ops < id_of op → IsRising p (ops ++ op ∷ [])

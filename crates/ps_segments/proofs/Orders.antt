@@ -5,7 +5,7 @@ use Rattle.ps_bucket_log.specs.declared.ops.Op.{Op}
 use Rattle.ps_bucket_log.specs.Ops.{id_of, upto, past}
 use Rattle.ps_bucket_log.specs.Logs.{IsRising}
 use Rattle.ps_segments.specs.declared.entries.Entry.{Entry}
-use Rattle.ps_segments.specs.Segmented.{ops_of}
+use Rattle.ps_segments.specs.Segmented.{entry_ops}
 
 -- all of a rising list is past where it begins, and nothing of it up to there
 pub past-rising : (p q : ℕ) (xs : List Op) → IsRising q xs → p ≤ q → past p xs ≡ xs
@@ -47,7 +47,7 @@ upto-before p id (x ∷ xs) ys rising some = elim (cases_lt id (id_of x)) [
 ]
 
 -- each entry of a rising list is past where it begins
-pub rising-at : (q : ℕ) (es : List Entry) (i : ℕ) (d : Entry) → IsRising q (ops_of es) → i < length es → q < id_of (get_or es i d).op
+pub rising-at : (q : ℕ) (es : List Entry) (i : ℕ) (d : Entry) → IsRising q (entry_ops es) → i < length es → q < id_of (get_or es i d).op
 rising-at q [] i d rising within = absurd (omega arith)
 rising-at q (e ∷ es) zero d rising within = rising.0
 rising-at q (e ∷ es) (suc i) d rising within = omega (arith, rising.0, rising-at (id_of e.op) es i d rising.1 (omega arith))

@@ -11,7 +11,7 @@ use Rattle.ps_segments.specs.declared.walks.Reading.{Reading}
 use Rattle.ps_segments.specs.declared.walks.Walk.{Walk}
 use Rattle.ps_segments.specs.declared.walks.Walk.TheVariants.{GoesOn, Ends}
 use Rattle.ps_segments.specs.declared.entries.Entry.{Entry}
-use Rattle.ps_segments.specs.Segmented.{ops_of, entries_of, entries_from, run_of}
+use Rattle.ps_segments.specs.Segmented.{entry_ops, all_entries, entries_from, run_of}
 use Rattle.ps_segments.specs.Reading.{completed, batch_with, led_to, is_left}
 use Rattle.ps_segments.proofs.Orders.{upto-rising, IsRising-behind}
 use Rattle.ps_segments.proofs.Cutting.{ops_of-append, entries_from-zero}
@@ -64,14 +64,14 @@ completed-full r high op xs low full =
 -- segments, one after another
 
 from-here : (place i : ℕ) (sealed : List (List Entry)) (growing s : List Entry) → i < length sealed → s ≡ get_or sealed i s
-    → entries_from place (drop i sealed) growing ≡ drop place s ++ entries_of (drop (i + 1) sealed) growing
+    → entries_from place (drop i sealed) growing ≡ drop place s ++ all_entries (drop (i + 1) sealed) growing
 from-here place i sealed growing s within is =
     ap (λ (ss : List (List Entry)). entries_from place ss growing) (drop_more sealed i s within ∙ ap (λ x. x ∷ drop (i + 1) sealed) (sym is))
 
 pub entries-here : (i : ℕ) (sealed : List (List Entry)) (growing s : List Entry) → i < length sealed → s ≡ get_or sealed i s
-    → entries_of (drop i sealed) growing ≡ s ++ entries_of (drop (i + 1) sealed) growing
+    → all_entries (drop i sealed) growing ≡ s ++ all_entries (drop (i + 1) sealed) growing
 entries-here i sealed growing s within is =
-    ap (λ (ss : List (List Entry)). entries_of ss growing) (drop_more sealed i s within ∙ ap (λ x. x ∷ drop (i + 1) sealed) (sym is))
+    ap (λ (ss : List (List Entry)). all_entries ss growing) (drop_more sealed i s within ∙ ap (λ x. x ∷ drop (i + 1) sealed) (sym is))
 
 pub run-here : (i : ℕ) (sealed : List (List Entry)) (growing s : List Entry) → i < length sealed → s ≡ get_or sealed i s
     → run_of 0 (drop i sealed) growing ≡ s
@@ -84,31 +84,31 @@ drop-length (x ∷ xs) n is = rw is (drop-length xs (length xs) refl)
 
 -- a segment that was walked over leaves those behind it
 whole-here : (place i : ℕ) (sealed : List (List Entry)) (growing s : List Entry) → i < length sealed → s ≡ get_or sealed i s
-    → ops_of (entries_from place (drop i sealed) growing) ≡ ops_of (drop place s) ++ ops_of (entries_from 0 (drop (i + 1) sealed) growing)
+    → entry_ops (entries_from place (drop i sealed) growing) ≡ entry_ops (drop place s) ++ entry_ops (entries_from 0 (drop (i + 1) sealed) growing)
 whole-here place i sealed growing s within is =
-    ap ops_of (from-here place i sealed growing s within is)
-    ∙ ops_of-append (drop place s) (entries_of (drop (i + 1) sealed) growing)
-    ∙ ap (λ es. ops_of (drop place s) ++ ops_of es) (sym (entries_from-zero (drop (i + 1) sealed) growing))
+    ap entry_ops (from-here place i sealed growing s within is)
+    ∙ ops_of-append (drop place s) (all_entries (drop (i + 1) sealed) growing)
+    ∙ ap (λ es. entry_ops (drop place s) ++ entry_ops es) (sym (entries_from-zero (drop (i + 1) sealed) growing))
 
 pub rising_on : (place i : ℕ) (sealed : List (List Entry)) (growing s : List Entry) → i < length sealed → s ≡ get_or sealed i s
-    → IsRising 0 (ops_of (entries_from place (drop i sealed) growing)) → IsRising 0 (ops_of (entries_from 0 (drop (i + 1) sealed) growing))
+    → IsRising 0 (entry_ops (entries_from place (drop i sealed) growing)) → IsRising 0 (entry_ops (entries_from 0 (drop (i + 1) sealed) growing))
 rising_on place i sealed growing s within is rising =
-    IsRising-behind 0 (ops_of (drop place s)) (ops_of (entries_from 0 (drop (i + 1) sealed) growing))
+    IsRising-behind 0 (entry_ops (drop place s)) (entry_ops (entries_from 0 (drop (i + 1) sealed) growing))
     (rw (whole-here place i sealed growing s within is) at rising)
 
 -- what a walk over a run does, whatever is left behind it
 abbrev pub Walks : Reading → Reading → ℕ → List Entry → Walk → Type 0
 Walks old new high run walk =
-    (left : List Op) → IsRising 0 (ops_of run ++ left) → completed old high (ops_of run ++ left) ≡ led_to walk new high left
+    (left : List Op) → IsRising 0 (entry_ops run ++ left) → completed old high (entry_ops run ++ left) ≡ led_to walk new high left
 
 pub walked_on : (old new : Reading) (high place i : ℕ) (sealed : List (List Entry)) (growing s run : List Entry) (walk : Walk) (target : Batch)
-    → i < length sealed → s ≡ get_or sealed i s → run ≡ drop place s → IsRising 0 (ops_of (entries_from place (drop i sealed) growing))
-    → completed old high (ops_of (entries_from place (drop i sealed) growing)) ≡ target → Walks old new high run walk
-    → led_to walk new high (ops_of (entries_from 0 (drop (i + 1) sealed) growing)) ≡ target
+    → i < length sealed → s ≡ get_or sealed i s → run ≡ drop place s → IsRising 0 (entry_ops (entries_from place (drop i sealed) growing))
+    → completed old high (entry_ops (entries_from place (drop i sealed) growing)) ≡ target → Walks old new high run walk
+    → led_to walk new high (entry_ops (entries_from 0 (drop (i + 1) sealed) growing)) ≡ target
 walked_on old new high place i sealed growing s run walk target within is from rising before walks =
-    let left : List Op = ops_of (entries_from 0 (drop (i + 1) sealed) growing) in
-    let whole : ops_of (entries_from place (drop i sealed) growing) ≡ ops_of run ++ left =
-    whole-here place i sealed growing s within is ∙ ap (λ es. ops_of es ++ left) (sym from) in
+    let left : List Op = entry_ops (entries_from 0 (drop (i + 1) sealed) growing) in
+    let whole : entry_ops (entries_from place (drop i sealed) growing) ≡ entry_ops run ++ left =
+    whole-here place i sealed growing s within is ∙ ap (λ es. entry_ops es ++ left) (sym from) in
     sym (walks left (subst (IsRising 0) whole rising)) ∙ ap (completed old high) (sym whole) ∙ before
 
 led_to-nil : (walk : Walk) (r : Reading) (high : ℕ) → led_to walk r high [] ≡ batch_with r (is_left walk)
@@ -116,43 +116,43 @@ led_to-nil GoesOn r high = completed-nil r high
 led_to-nil (Ends more) r high = refl
 
 pub walked_last : (old new : Reading) (high place n : ℕ) (sealed : List (List Entry)) (growing run : List Entry) (walk : Walk) (target : Batch)
-    → n ≡ length sealed → run ≡ drop place growing → IsRising 0 (ops_of (entries_from place (drop n sealed) growing))
-    → completed old high (ops_of (entries_from place (drop n sealed) growing)) ≡ target → Walks old new high run walk
+    → n ≡ length sealed → run ≡ drop place growing → IsRising 0 (entry_ops (entries_from place (drop n sealed) growing))
+    → completed old high (entry_ops (entries_from place (drop n sealed) growing)) ≡ target → Walks old new high run walk
     → batch_with new (is_left walk) ≡ target
 walked_last old new high place n sealed growing run walk target end from rising before walks =
-    let whole : ops_of (entries_from place (drop n sealed) growing) ≡ ops_of run ++ [] =
-    ap (λ (ss : List (List Entry)). ops_of (entries_from place ss growing)) (drop-length sealed n end) ∙ ap ops_of (sym from) ∙ sym (append-nil (ops_of run)) in
+    let whole : entry_ops (entries_from place (drop n sealed) growing) ≡ entry_ops run ++ [] =
+    ap (λ (ss : List (List Entry)). entry_ops (entries_from place ss growing)) (drop-length sealed n end) ∙ ap entry_ops (sym from) ∙ sym (append-nil (entry_ops run)) in
     sym (led_to-nil walk new high) ∙ sym (walks [] (subst (IsRising 0) whole rising)) ∙ ap (completed old high) (sym whole) ∙ before
 
 -- entries of one run, one after another
 
 next-here : (i : ℕ) (run : List Entry) (e : Entry) (left : List Op) → i < length run → e ≡ get_or run i e
-    → ops_of (drop i run) ++ left ≡ e.op ∷ (ops_of (drop (i + 1) run) ++ left)
+    → entry_ops (drop i run) ++ left ≡ e.op ∷ (entry_ops (drop (i + 1) run) ++ left)
 next-here i run e left within is =
-    ap (λ (es : List Entry). ops_of es ++ left) (drop_more run i e within ∙ ap (λ x. x ∷ drop (i + 1) run) (sym is))
+    ap (λ (es : List Entry). entry_ops es ++ left) (drop_more run i e within ∙ ap (λ x. x ∷ drop (i + 1) run) (sym is))
 
 pub taken_on : (r s : Reading) (high i : ℕ) (run : List Entry) (e : Entry) (left : List Op) → i < length run → e ≡ get_or run i e → id_of e.op ≤ high
     → takes_next (length r.ops) r.bytes (size_of e.op) ≡ true → s.ops ≡ r.ops ++ e.op ∷ [] → s.bytes ≡ r.bytes + size_of e.op
-    → completed r high (ops_of (drop i run) ++ left) ≡ completed s high (ops_of (drop (i + 1) run) ++ left)
+    → completed r high (entry_ops (drop i run) ++ left) ≡ completed s high (entry_ops (drop (i + 1) run) ++ left)
 taken_on r s high i run e left within is low room ops bytes =
-    ap (completed r high) (next-here i run e left within is) ∙ completed-take r s high e.op (ops_of (drop (i + 1) run) ++ left) low room ops bytes
+    ap (completed r high) (next-here i run e left within is) ∙ completed-take r s high e.op (entry_ops (drop (i + 1) run) ++ left) low room ops bytes
 
 pub full_on : (r : Reading) (high i : ℕ) (run : List Entry) (e : Entry) (left : List Op) → i < length run → e ≡ get_or run i e → id_of e.op ≤ high
-    → takes_next (length r.ops) r.bytes (size_of e.op) ≡ false → completed r high (ops_of (drop i run) ++ left) ≡ batch_with r true
+    → takes_next (length r.ops) r.bytes (size_of e.op) ≡ false → completed r high (entry_ops (drop i run) ++ left) ≡ batch_with r true
 full_on r high i run e left within is low full =
-    ap (completed r high) (next-here i run e left within is) ∙ completed-full r high e.op (ops_of (drop (i + 1) run) ++ left) low full
+    ap (completed r high) (next-here i run e left within is) ∙ completed-full r high e.op (entry_ops (drop (i + 1) run) ++ left) low full
 
 pub past_on : (r : Reading) (high i : ℕ) (run : List Entry) (e : Entry) (left : List Op) → i < length run → e ≡ get_or run i e → high < id_of e.op
-    → IsRising 0 (ops_of run ++ left) → completed r high (ops_of (drop i run) ++ left) ≡ batch_with r false
+    → IsRising 0 (entry_ops run ++ left) → completed r high (entry_ops (drop i run) ++ left) ≡ batch_with r false
 past_on r high i run e left within is past rising =
     let here = next-here i run e left within is in
-    let cut : ops_of run ++ left ≡ ops_of (take i run) ++ (ops_of (drop i run) ++ left) =
-    ap (λ (es : List Entry). ops_of es ++ left) (sym (take-append-drop i run))
+    let cut : entry_ops run ++ left ≡ entry_ops (take i run) ++ (entry_ops (drop i run) ++ left) =
+    ap (λ (es : List Entry). entry_ops es ++ left) (sym (take-append-drop i run))
     ∙ ap (λ (xs : List Op). xs ++ left) (ops_of-append (take i run) (drop i run))
-    ∙ append_assoc (ops_of (take i run)) (ops_of (drop i run)) left in
-    let behind : IsRising 0 (ops_of (drop i run) ++ left) = IsRising-behind 0 (ops_of (take i run)) (ops_of (drop i run) ++ left) (subst (IsRising 0) cut rising) in
-    ap (completed r high) here ∙ completed-past r high 0 e.op (ops_of (drop (i + 1) run) ++ left) past (subst (IsRising 0) here behind)
+    ∙ append_assoc (entry_ops (take i run)) (entry_ops (drop i run)) left in
+    let behind : IsRising 0 (entry_ops (drop i run) ++ left) = IsRising-behind 0 (entry_ops (take i run)) (entry_ops (drop i run) ++ left) (subst (IsRising 0) cut rising) in
+    ap (completed r high) here ∙ completed-past r high 0 e.op (entry_ops (drop (i + 1) run) ++ left) past (subst (IsRising 0) here behind)
 
 -- where the run ends, nothing of it is left
-pub run_over : (r : Reading) (high n : ℕ) (run : List Entry) (left : List Op) → n ≡ length run → completed r high (ops_of (drop n run) ++ left) ≡ completed r high left
-run_over r high n run left end = ap (λ (es : List Entry). completed r high (ops_of es ++ left)) (drop-length run n end)
+pub run_over : (r : Reading) (high n : ℕ) (run : List Entry) (left : List Op) → n ≡ length run → completed r high (entry_ops (drop n run) ++ left) ≡ completed r high left
+run_over r high n run left end = ap (λ (es : List Entry). completed r high (entry_ops es ++ left)) (drop-length run n end)

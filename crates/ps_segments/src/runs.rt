@@ -6,7 +6,7 @@ ghost use Rattle.ps_bucket_log.specs.Ops.{upto as up_to};
 ghost use Rattle.ps_bucket_log.specs.Logs.{IsRising, cleared};
 ghost use Rattle.ps_bucket_log.specs.Batches.{batch_of};
 ghost use Rattle.ps_segments.specs.Depths.{IsDepth};
-ghost use Rattle.ps_segments.specs.Segmented.{ops_of, entries_of, run_of, head_id, IsSegmented, IsRunUpto, IsCut, IsLastOf};
+ghost use Rattle.ps_segments.specs.Segmented.{entry_ops, all_entries, run_of, head_id, IsSegmented, IsRunUpto, IsCut, IsLastOf};
 
 use crate::entries::{Entry, Noted};
 use crate::segments::Segment;
@@ -55,9 +55,9 @@ fn run_upto<L: Ledger>(
     steps: &mut Steps<L>,
 ) -> Option<usize>
     requires { IsSegmented sealed.now growing.now }
-    ensures none { IfNone result (IsRising id.0 (ops_of (entries_of sealed.now growing.now))) }
+    ensures none { IfNone result (IsRising id.0 (entry_ops (all_entries sealed.now growing.now))) }
     ensures some { IfSome result (IsRunUpto id.0 sealed.now growing.now) }
-    ensures cost { (d : ℕ) → IsDepth (length (ops_of (entries_of sealed.now growing.now))) d
+    ensures cost { (d : ℕ) → IsDepth (length (entry_ops (all_entries sealed.now growing.now))) d
         → steps.new ≤ steps.old + d + 1 }
 {
     if begins_upto(growing, id, steps) {
@@ -74,7 +74,7 @@ fn run_upto<L: Ledger>(
 fn cut_past<L: Ledger>(sealed: &[Segment], growing: &[Noted], id: OpId, steps: &mut Steps<L>) -> Cut
     requires { IsSegmented sealed.now growing.now }
     ensures cut { IsCut id.0 sealed.now growing.now result.run result.place }
-    ensures cost { (d : ℕ) → IsDepth (length (ops_of (entries_of sealed.now growing.now))) d
+    ensures cost { (d : ℕ) → IsDepth (length (entry_ops (all_entries sealed.now growing.now))) d
         → steps.new ≤ steps.old + 2 * d + 1 }
 {
     match run_upto(sealed, growing, id, steps) {
@@ -94,10 +94,10 @@ pub fn last_upto<'a, L: Ledger>(
     steps: &mut Steps<L>,
 ) -> Option<&'a Entry>
     requires { IsSegmented sealed.now growing.now }
-    ensures none { IfNone result (up_to id.0 (ops_of (entries_of sealed.now growing.now)) ≡ []) }
+    ensures none { IfNone result (up_to id.0 (entry_ops (all_entries sealed.now growing.now)) ≡ []) }
     ensures some { IfSome result (λ last.
-        IsLastOf (up_to id.0 (ops_of (entries_of sealed.now growing.now))) last.now) }
-    ensures cost { (d : ℕ) → IsDepth (length (ops_of (entries_of sealed.now growing.now))) d
+        IsLastOf (up_to id.0 (entry_ops (all_entries sealed.now growing.now))) last.now) }
+    ensures cost { (d : ℕ) → IsDepth (length (entry_ops (all_entries sealed.now growing.now))) d
         → steps.new ≤ steps.old + 2 * d + 4 }
 {
     let Cut { run, place } = cut_past(sealed, growing, id, steps);
@@ -121,7 +121,7 @@ fn id_of_clear(op: &Op) -> OpId
 #[tactic(auto, using(crate::proofs::Heads::cleared_some, crate::proofs::Heads::cleared_none))]
 fn clear_id<L: Ledger>(sealed: &[Segment], growing: &[Noted], steps: &mut Steps<L>) -> OpId
     requires { IsSegmented sealed.now growing.now }
-    ensures value { result.0 ≡ cleared (ops_of (entries_of sealed.now growing.now)) }
+    ensures value { result.0 ≡ cleared (entry_ops (all_entries sealed.now growing.now)) }
     ensures cost { steps.new ≤ steps.old + 1 }
 {
     match run_at(sealed, growing, 0) {
@@ -141,8 +141,8 @@ pub fn read_runs<L: Ledger>(
 ) -> Result<Batch, Memory>
     requires { IsSegmented sealed.now growing.now }
     ensures value { IfOk result (λ batch.
-        batch ≡ batch_of after.0 upto.0 (ops_of (entries_of sealed.now growing.now))) }
-    ensures cost { (d : ℕ) → IsDepth (length (ops_of (entries_of sealed.now growing.now))) d
+        batch ≡ batch_of after.0 upto.0 (entry_ops (all_entries sealed.now growing.now))) }
+    ensures cost { (d : ℕ) → IsDepth (length (entry_ops (all_entries sealed.now growing.now))) d
         → IfOk result (λ batch. steps.new ≤ steps.old + length batch.ops + 2 * d + 4) }
 {
     let clear = clear_id(sealed, growing, steps);
@@ -161,7 +161,7 @@ pub fn read_runs<L: Ledger>(
 // Equal operations of a run, behind others.
 #[tactic(auto, using(crate::proofs::Fronts::copied_more))]
 fn copy_run(alloc: Global, before: Items<Op>, run: &[Noted]) -> Result<Items<Op>, Memory>
-    ensures { IfOk result (λ both. both ≡ before ++ ops_of run.now) }
+    ensures { IfOk result (λ both. both ≡ before ++ entry_ops run.now) }
 {
     let mut both = before;
     'run: for noted in run {
@@ -178,7 +178,7 @@ pub fn copy_runs(
     growing: &[Noted],
     room: usize,
 ) -> Result<Items<Op>, Memory>
-    ensures { IfOk result (λ copy. copy ≡ ops_of (entries_of sealed.now growing.now)) }
+    ensures { IfOk result (λ copy. copy ≡ entry_ops (all_entries sealed.now growing.now)) }
 {
     let mut all = Items::from_vec(Vec::with_capacity(alloc, room)?);
     'sealed: for segment in sealed {

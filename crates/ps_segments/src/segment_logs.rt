@@ -34,12 +34,12 @@ pub struct SegmentLog {
 impl Model for SegmentLog {
     ghost use Rattle.std.specs.Prelude.{◌-◌, vec_len, vec_capacity};
     ghost use Rattle.ps_bucket_log.specs.Logs.{LogState};
-    ghost use Rattle.ps_segments.specs.Segmented.{ops_of, entries_of, IsSummed};
+    ghost use Rattle.ps_segments.specs.Segmented.{entry_ops, all_entries, IsSummed};
 
     ghost Value = { LogState };
 
     ghost view = { λ log. record {
-      ops = ops_of (entries_of log.sealed.items log.growing.items);
+      ops = entry_ops (all_entries log.sealed.items log.growing.items);
       spare = vec_capacity log.growing - vec_len log.growing;
     } };
 

@@ -5,7 +5,7 @@ ghost use Rattle.ps_bucket_log.specs.declared.ops.Op.{Op};
 ghost use Rattle.ps_bucket_log.specs.Ops.{upto as up_to, later_id, greatest_target};
 ghost use Rattle.ps_bucket_log.specs.Logs.{IsRising};
 ghost use Rattle.ps_bucket_log.specs.Batches.{takes_next, batch_from, front_of};
-ghost use Rattle.ps_segments.specs.Segmented.{ops_of, entries_from, run_of};
+ghost use Rattle.ps_segments.specs.Segmented.{entry_ops, entries_from, run_of};
 ghost use Rattle.ps_segments.specs.Reading.{completed, led_to, looks_beside, is_left, batch_with, IsBegun};
 
 use crate::entries::Noted;
@@ -72,8 +72,8 @@ impl Reading {
     ) -> Result<Walk, Memory>
         requires { IsBegun self.old }
         ensures begun { OnOk result (IsBegun self.new) }
-        ensures value { IfOk result (λ walk. (left : List Op) → IsRising 0 (ops_of run.now ++ left)
-            → completed self.old upto.0 (ops_of run.now ++ left)
+        ensures value { IfOk result (λ walk. (left : List Op) → IsRising 0 (entry_ops run.now ++ left)
+            → completed self.old upto.0 (entry_ops run.now ++ left)
             ≡ led_to walk self.new upto.0 left) }
         ensures cost { IfOk result (λ walk. steps.new + length self.old.ops
             ≡ steps.old + length self.new.ops + looks_beside walk) }
@@ -118,9 +118,9 @@ pub fn read_from<L: Ledger>(
     steps: &mut Steps<L>,
 ) -> Result<Batch, Memory>
     requires within { from ≤ length (run_of 0 sealed.now growing.now) }
-    requires rising { IsRising 0 (ops_of (entries_from from sealed.now growing.now)) }
+    requires rising { IsRising 0 (entry_ops (entries_from from sealed.now growing.now)) }
     ensures value { IfOk result (λ batch.
-        let asked = up_to upto.0 (ops_of (entries_from from sealed.now growing.now))
+        let asked = up_to upto.0 (entry_ops (entries_from from sealed.now growing.now))
         in batch ≡ batch_from asked (front_of 0 0 asked)) }
     ensures cost { IfOk result (λ batch. steps.new ≤ steps.old + length batch.ops + 1) }
 {

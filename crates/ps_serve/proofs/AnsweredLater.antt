@@ -15,7 +15,7 @@ use Rattle.ps_store.specs.declared.fixed.Fixed.{Fixed}
 use Rattle.ps_store.specs.Courses.{course_of, ledger_at}
 use Rattle.ps_store.specs.CourseLaws.{CoursesAreLawful, PlacesStay}
 use Rattle.ps_store.specs.Ledgers.{Ledger, head_of, last_number}
-use Rattle.ps_store.specs.Readings.{names_of}
+use Rattle.ps_store.specs.Readings.{asker_bucket_names}
 use Rattle.ps_streams.specs.Headline.{Headline, RunsAgree}
 use Rattle.ps_streams.specs.Serving.{IsValid}
 use Rattle.ps_serve.specs.declared.asked.Asked.{Asked}
@@ -115,7 +115,7 @@ module _ (stay : PlacesStay) (agrees : RunsAgree) (headline : Headline) (lawful 
 
   few_before : (asker : Asker) → AreFewThroughout fixed low then' asker → AreFewThroughout fixed low history asker
   few_before asker few place later within =
-      subst (λ (l : Ledger). length (names_of l asker) ≤ fixed.limits.buckets) (stay fixed.rules history more place within) (few place later (longer place within))
+      subst (λ (l : Ledger). length (asker_bucket_names l asker) ≤ fixed.limits.buckets) (stay fixed.rules history more place within) (few place later (longer place within))
 
   drains_later : (until_drained : Bool) (before now : ℕ) (end : End) (it : Result Asked Refusal) → DrainsSo fixed low history may_give until_drained before now end it
       → DrainsSo fixed low then' may_give until_drained before now end it

@@ -7,7 +7,7 @@ use Rattle.ps_token.specs.declared.key_lists.Key.{Key}
 use Rattle.ps_serve.specs.declared.asked.Asked.{Asked}
 use Rattle.ps_serve.specs.declared.refusals.Refusal.{Refusal}
 use Rattle.ps_serve.specs.declared.refusals.Refusal.TheVariants.{Cut, BadRequest, Unauthorized, NotFound, NotAllowed, Conflict, LengthRequired, TooLarge, TooManyBuckets, Memory}
-use Rattle.ps_serve.specs.Reading.{HasHead, Breaks, IsBehind, IsRead, EndsInBody, AsksBehind, Asks}
+use Rattle.ps_serve.specs.Reading.{HasRequestHead, Breaks, IsBehind, IsRead, EndsInBody, AsksBehind, Asks}
 
 -- what breaks off with a fault that came behind the head did so since before the head
 breaks_since : (old new : Option Input) (before middle now : ℕ) (bytes : List ℕ) → before ≤ middle → Breaks old new middle now bytes → Breaks old new before now bytes
@@ -15,7 +15,7 @@ breaks_since old new before middle now bytes low (inl all) = inl all
 breaks_since old new before middle now bytes low (inr rose) = inr (rose.0, omega (arith, low, rose.1))
 
 module _ (may_give : ℕ → Type 0) (keys : List Key) (moment : ℕ) (head : Head) (old between new : Option Input) (before middle now : ℕ)
-    (has_head : HasHead old between head) (given : may_give moment) (low : before ≤ middle) where
+    (has_head : HasRequestHead old between head) (given : may_give moment) (low : before ≤ middle) where
   is_read : (asked : Result Asked Refusal) → IsBehind keys moment head between new asked → IsRead may_give keys old new asked
   is_read asked behind = record { head = head; between = between; has_head = has_head; moment = moment; given = given; behind = behind }
 

@@ -18,9 +18,9 @@ use Rattle.ps_serve.specs.declared.refusals.Refusal.{Refusal}
 use Rattle.ps_serve.specs.declared.refusals.Refusal.TheVariants.{Cut, BadRequest, Unauthorized, NotFound, NotAllowed, Conflict, LengthRequired, TooLarge, TooManyBuckets, Memory}
 use Rattle.ps_serve.specs.declared.ways.Way.{Way}
 use Rattle.ps_serve.specs.declared.ways.Way.TheVariants.{Number}
-use Rattle.ps_serve.specs.Refusals.{◌>>=◌, or_refusal, holds, or_bad, Reads, ReadsOr}
+use Rattle.ps_serve.specs.Refusals.{◌>>=◌, or_refusal, holds_or, or_bad, Reads, ReadsOr}
 use Rattle.ps_serve.specs.Requests.{HasToken, IsOpen, way_of, method_of, token_in, admitted, verified, stated, length_for, length_of, stream_for, asked_stream, asked_number, asked_for, asked_of}
-use Rattle.ps_serve.specs.Reading.{HasBody, IsBehind, AsksBehind, count_of}
+use Rattle.ps_serve.specs.Reading.{HasBody, IsBehind, AsksBehind, body_count}
 
 -- ---- refusals that a request's own bytes have
 
@@ -63,11 +63,11 @@ own_admitted keys moment head = by_way (way_of head.path)
     by_claims way (Ok claims) own = tt
     by_claims way (Err refusal) own = own
 
-    by_method : (way : Way) (same : Bool) → AreOwn (holds NotAllowed same >>= λ _. (verified keys moment head.authorization >>= λ c. Ok (pass_of way c)))
+    by_method : (way : Way) (same : Bool) → AreOwn (holds_or NotAllowed same >>= λ _. (verified keys moment head.authorization >>= λ c. Ok (pass_of way c)))
     by_method way true = by_claims way (verified keys moment head.authorization) (own_verified keys moment head.authorization)
     by_method way false = tt
 
-    by_way : (way : Option Way) → AreOwn (or_refusal NotFound way >>= λ w. (holds NotAllowed (bytes_eq head.method (method_of w)) >>= λ _.
+    by_way : (way : Option Way) → AreOwn (or_refusal NotFound way >>= λ w. (holds_or NotAllowed (bytes_eq head.method (method_of w)) >>= λ _.
         (verified keys moment head.authorization >>= λ c. Ok (pass_of w c))))
     by_way None = tt
     by_way (Some way) = by_method way (bytes_eq head.method (method_of way))
@@ -132,7 +132,7 @@ open_of keys moment head pass is = by_way (way_of head.path) refl is
     by_claims way (Err refusal) claims_is is = absurd (subst IsErr is tt)
 
     by_method : (way : Way) → way_of head.path ≡ Some way → (same : Bool) → bytes_eq head.method (method_of way) ≡ same
-        → (holds NotAllowed same >>= λ _. (verified keys moment head.authorization >>= λ c. Ok (pass_of way c))) ≡ Ok pass → IsOpen head
+        → (holds_or NotAllowed same >>= λ _. (verified keys moment head.authorization >>= λ c. Ok (pass_of way c))) ≡ Ok pass → IsOpen head
     by_method way way_is true same_is is = record {
       way = way;
       path_is = way_is;
@@ -141,7 +141,7 @@ open_of keys moment head pass is = by_way (way_of head.path) refl is
     }
     by_method way way_is false same_is is = absurd (subst IsErr is tt)
 
-    by_way : (way : Option Way) → way_of head.path ≡ way → (or_refusal NotFound way >>= λ w. (holds NotAllowed (bytes_eq head.method (method_of w)) >>= λ _.
+    by_way : (way : Option Way) → way_of head.path ≡ way → (or_refusal NotFound way >>= λ w. (holds_or NotAllowed (bytes_eq head.method (method_of w)) >>= λ _.
         (verified keys moment head.authorization >>= λ c. Ok (pass_of w c)))) ≡ Ok pass → IsOpen head
     by_way None way_is is = absurd (subst IsErr is tt)
     by_way (Some way) way_is is = by_method way way_is (bytes_eq head.method (method_of way)) refl is
@@ -177,7 +177,7 @@ module _ (keys : List Key) (moment : ℕ) (head : Head) where
     | inr is ↦ asks_own all all before now refusal (own_of (admitted keys moment head) refusal (own_admitted keys moment head) is) (record {
       body = [];
       given = Gives-none all;
-      whole = sym (ap count_of (bind_err (admitted keys moment head) (λ pass. length_for pass.way head) refusal is));
+      whole = sym (ap body_count (bind_err (admitted keys moment head) (λ pass. length_for pass.way head) refusal is));
       asked_is = bind_err (admitted keys moment head) _ refusal is;
     })
   ]
@@ -210,7 +210,7 @@ module _ (keys : List Key) (moment : ℕ) (head : Head) where
         behind result is = record {
           body = [];
           given = Gives-none all;
-          whole = sym (ap count_of (length_is ∙ none_is));
+          whole = sym (ap body_count (length_is ∙ none_is));
           asked_is = asked_when [] 0 none_is ∙ ap (λ (w : Way). asked_for w pass.claims head []) way ∙ is;
         }
     number_asks all before now (Err refusal) way reads = elim (told (Unit {0}) refusal (asked_number pass.claims head.query) reads) [
@@ -218,7 +218,7 @@ module _ (keys : List Key) (moment : ℕ) (head : Head) where
       | inr is ↦ asks_own all all before now refusal (own_of (asked_number pass.claims head.query) refusal (own_number pass.claims head.query) is) (record {
         body = [];
         given = Gives-none all;
-        whole = sym (ap count_of (length_is ∙ ap (λ (w : Way). length_for w head) way));
+        whole = sym (ap body_count (length_is ∙ ap (λ (w : Way). length_for w head) way));
         asked_is = asked_when [] 0 (ap (λ (w : Way). length_for w head) way) ∙ ap (λ (w : Way). asked_for w pass.claims head []) way ∙ is;
       })
     ]
@@ -238,13 +238,13 @@ module _ (keys : List Key) (moment : ℕ) (head : Head) where
         nothing_read old new refusal is same = record {
           body = [];
           given = subst (λ all. Gives old all []) (sym same) (Gives-none old);
-          whole = sym (ap count_of (length_is ∙ is));
+          whole = sym (ap body_count (length_is ∙ is));
           asked_is = asked_unless [] refusal is;
         }
     body_refused old new before now TooLarge by has = record {
       body = [];
       given = subst (λ all. Gives old all []) (sym has.1) (Gives-none old);
-      whole = sym (ap count_of (length_is ∙ by ∙ has.0));
+      whole = sym (ap body_count (length_is ∙ by ∙ has.0));
       asked_is = asked_unless [] TooLarge (by ∙ has.0);
     }
     body_refused old new before now TooManyBuckets by has = absurd has
@@ -260,7 +260,7 @@ module _ (keys : List Key) (moment : ℕ) (head : Head) where
         behind result is = record {
           body = body;
           given = has.1;
-          whole = sym (ap count_of (length_is ∙ by ∙ has.0));
+          whole = sym (ap body_count (length_is ∙ by ∙ has.0));
           asked_is = asked_when body (length body) (by ∙ has.0) ∙ for_is body ∙ is;
         }
 

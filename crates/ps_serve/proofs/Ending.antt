@@ -38,7 +38,7 @@ use Rattle.ps_serve.specs.Readers.{Lock, seen}
 use Rattle.ps_serve.specs.SharedRuns.{IsOwnTurn, IsRun, served_at}
 use Rattle.ps_serve.specs.SharedAnswers.{StreamsAt}
 use Rattle.ps_serve.specs.SharedStreams.{AreTooManyAt, EndsSo, HasBroken, HasStreamed}
-use Rattle.ps_serve.specs.Steps.{Begins, HasStepped, StepEnds, StepsOn}
+use Rattle.ps_serve.specs.Steps.{BeginsAnswer, HasStepped, StepEnds, StepsOn}
 use Rattle.ps_serve.proofs.Later.{at_later, streamed_later}
 use Rattle.ps_serve.proofs.Onward.{broken_on, meets_headline, streamed_on, streamed_still}
 use Rattle.ps_serve.proofs.Stepping.{few_taken}
@@ -164,7 +164,7 @@ module _ (stay : PlacesStay) (whole : EndsAreWhole) (agrees : RunsAgree) (on : R
 
 module _ (whole : EndsAreWhole) (may_give : ℕ → Type 0) (exp : ℕ) (fixed : Fixed) (asker : Asker) (positions : List Known) (low : ℕ) (history : List Event) (later : low ≤ length history)
     (s' : SessionState) (bytes : Vec ℕ Global) (item : Served) (item_here : item ≡ served_at (course_of fixed.rules history asker) (length history))
-    (begins : Begins fixed history asker (begin (requested_in positions)) s' (Ok bytes)) where
+    (begins : BeginsAnswer fixed history asker (begin (requested_in positions)) s' (Ok bytes)) where
   abbrev first_turn : Turn
   first_turn = record { place = length history; expires = None }
 
@@ -227,7 +227,7 @@ module _ (may_give : ℕ → Type 0) (exp : ℕ) (whole : EndsAreWhole) (fixed :
       → StreamsAt fixed low history may_give until_drained asker positions exp old new before now outcome
   refused_memory refuses = inr (inl (record { cause_is = tt; refused = refuses; none = none }))
 
-  pub refused_so : (s s' : SessionState) (refusal : Refusal) → Begins fixed history asker s s' (Err refusal) → Refuses refusal old new before now status end
+  pub refused_so : (s s' : SessionState) (refusal : Refusal) → BeginsAnswer fixed history asker s s' (Err refusal) → Refuses refusal old new before now status end
       → StreamsAt fixed low history may_give until_drained asker positions exp old new before now outcome
   refused_so s s' refusals.Cut begins refuses = absurd begins
   refused_so s s' refusals.BadRequest begins refuses = absurd begins

@@ -10,7 +10,7 @@ use Rattle.ps_session.specs.declared.phases.Phase.TheVariants.{Start, Download, 
 use Rattle.ps_streams.specs.Downloads.{left, SendsOn, ReadsSendOn}
 use Rattle.ps_streams.specs.Runs.{turn, turn_in, download, batch_at}
 use Rattle.ps_session.specs.Sessions.{SessionState, Turned, download_action, action_in, next_action, behind, read}
-use Rattle.ps_session.specs.Takes.{name_of, place_in}
+use Rattle.ps_session.specs.Takes.{taken_name, place_in}
 use Rattle.ps_streams.specs.Ties.{HasTaken}
 use Rattle.ps_serve.specs.Runs.{IsSending}
 
@@ -46,7 +46,7 @@ module _ (falls : ReadsSendOn) (course : Course) (n : ℕ) (session : SessionSta
       let place : ℕ = place_in bucket.name session.last.buckets in
       let action : next_action session ≡ Read place (record { 0 = session.places bucket.name }) session.last.last_op =
       ap (λ (p : Phase). action_in p session) phase ∙ ap (λ (o : Option TakenBucket). download_action o session) is in
-      falls course n place (record { 0 = session.places bucket.name }) session.last.last_op bucket.name session lawful taken action (ap (λ (o : Option TakenBucket). option_map name_of o) is)
+      falls course n place (record { 0 = session.places bucket.name }) session.last.last_op bucket.name session lawful taken action (ap (λ (o : Option TakenBucket). option_map taken_name o) is)
 
   downloads_on : (o : Option TakenBucket) → behind session ≡ o → GoesOn session (download o course n session).session
   downloads_on None is = record { sending = tt; falls = omega (arith, rank_is session phase) }

@@ -10,7 +10,7 @@ use Rattle.ps_store.specs.declared.fixed.Fixed.{Fixed}
 use Rattle.ps_store.specs.Courses.{Course, course_of, ledger_at}
 use Rattle.ps_store.specs.CourseLaws.{PlacesStay}
 use Rattle.ps_store.specs.Ledgers.{Ledger}
-use Rattle.ps_store.specs.Readings.{AreTold, AreTooMany, batch_of, take_of, taken_names}
+use Rattle.ps_store.specs.Readings.{AreToldBehindMark, AreTooMany, batch_of, take_of, taken_names}
 use Rattle.ps_session.specs.declared.phases.Phase.{Phase}
 use Rattle.ps_session.specs.declared.phases.Phase.TheVariants.{Start, Download, Void, Done}
 use Rattle.ps_session.specs.Sessions.{SessionState, Turned, begin, requested_in}
@@ -21,7 +21,7 @@ use Rattle.ps_streams.proofs.Runs.{climbs_to, same_turn}
 use Rattle.ps_serve.specs.declared.ends.End.{End}
 use Rattle.ps_serve.specs.declared.ends.End.TheVariants.{Answered, Refused, Drained, Expired, PeerGone, CutRequest, TooMany, Memory}
 use Rattle.ps_serve.specs.declared.outcomes.Served.{Served}
-use Rattle.ps_serve.specs.Runs.{line_of, lines_text}
+use Rattle.ps_serve.specs.Runs.{line_made, lines_text}
 use Rattle.ps_serve.specs.SharedRuns.{IsFewIn, IsOwnTurn, AreOwnTurns, IsRun, TellsTime, completes, complete_last, served_after, served_at, served_before_line, served_of, with_take}
 use Rattle.ps_serve.specs.SharedStreams.{AreTooManyAt, EndsSo, HasBroken, HasStreamed, HasStreamedTo, HasTooMany, first}
 
@@ -41,10 +41,10 @@ climbs_split low (u ∷ us) t high climbs =
 
 module _ (may_give : ℕ → Type 0) (exp limit : ℕ) (a b : Course) (end : ℕ) (agree : AgreeUpTo a b end) where
   told_later : (phase : Phase) (n : ℕ) → n ≤ end → IsToldIn phase a n → IsToldIn phase b n
-  told_later Start n low told = subst (λ (t : Taken). AreTold (taken_names t)) (agree.take n low) told
+  told_later Start n low told = subst (λ (t : Taken). AreToldBehindMark (taken_names t)) (agree.take n low) told
   told_later Download n low told = tt
-  told_later Void n low told = subst (λ (t : Taken). AreTold (taken_names t)) (agree.take n low) told
-  told_later Done n low told = subst (λ (t : Taken). AreTold (taken_names t)) (agree.take n low) told
+  told_later Void n low told = subst (λ (t : Taken). AreToldBehindMark (taken_names t)) (agree.take n low) told
+  told_later Done n low told = subst (λ (t : Taken). AreToldBehindMark (taken_names t)) (agree.take n low) told
 
   few_later : (phase : Phase) (n : ℕ) → n ≤ end → IsFewIn may_give exp limit phase a n → IsFewIn may_give exp limit phase b n
   few_later Start n low few = subst (λ (t : Taken). length t.buckets ≤ limit) (agree.take n low) few
@@ -145,7 +145,7 @@ module _ (stay : PlacesStay) (agrees : RunsAgree) (may_give : ℕ → Type 0) (e
           late = subst (λ (n : ℕ). n ≤ it.place) one.place it.way.late;
         };
         served_is = it.served_is ∙ served_later may_give exp fixed.limits.buckets a b (length history) agree it.turns it.start begun [] climbs;
-        written = subst (λ (made : List Made). Gains old new (front ++ lines_text (map line_of made))) one.lines it.written;
+        written = subst (λ (made : List Made). Gains old new (front ++ lines_text (map line_made made))) one.lines it.written;
       }
 
   -- the last take stays where it was
@@ -178,7 +178,7 @@ module _ (stay : PlacesStay) (agrees : RunsAgree) (may_give : ℕ → Type 0) (e
             ∙ before_line_later may_give exp fixed.limits.buckets a b (length history) agree it.last.place (reached a begun it.turns) (served_of a begun [] it.turns) split.1
             ∙ ap (λ (s : SessionState). served_before_line b it.last.place s (served_of a begun [] it.turns)) one.session
             ∙ ap (λ (xs : List Served). served_before_line b it.last.place (reached b begun it.turns) xs) served_same;
-        written = subst (λ (made : List Made). GainsFront old new (front ++ lines_text (map line_of made))) whole.lines it.written;
+        written = subst (λ (made : List Made). GainsFront old new (front ++ lines_text (map line_made made))) whole.lines it.written;
       }
 
   pub many_later : (from count : ℕ) → AreTooManyAt may_give exp fixed asker positions low history from count → AreTooManyAt may_give exp fixed asker positions low then' from count

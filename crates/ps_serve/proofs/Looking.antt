@@ -12,14 +12,14 @@ use Rattle.ps_workers.specs.declared.looks.Look.{Look}
 use Rattle.ps_workers.specs.Looks.{LooksIn}
 use Rattle.ps_workers.specs.Sharing.{terms_of, fixed_of}
 use Rattle.ps_serve.specs.declared.readers.Reader.{Reader}
-use Rattle.ps_serve.specs.Readers.{Lock, GoesOn, IsAtEnd, StandsAt, own, seen}
+use Rattle.ps_serve.specs.Readers.{Lock, ReaderGoesOn, IsAtEnd, ReaderStandsAt, own, seen}
 
 some_is : {A : Type 0} {x y : A} → Some x ≡ Some y → x ≡ y
 some_is same = cc
 
 -- a reader at the end stands there
 pub stands_here : (named : Option Lock) (entries : List (Event × ℕ)) (lock : Lock) (reader : Reader) → named ≡ Some lock → entries ≡ own reader → IsAtEnd lock reader
-    → StandsAt named entries lock (Some reader) (fixed_of lock) (seen reader)
+    → ReaderStandsAt named entries lock (Some reader) (fixed_of lock) (seen reader)
 stands_here named entries lock reader lock_is entries_is at_end = record {
   reader = reader;
   held_is = refl;
@@ -35,7 +35,7 @@ stands_here named entries lock reader lock_is entries_is at_end = record {
 
 module _ (named : Option Lock) (entries : List (Event × ℕ)) (lock : Lock) (held : Option Reader) (fixed : Fixed) (history : List Event) (reader reader' : Reader) (look : Look) (now : List Event)
     (is : held ≡ Some reader) (looks : LooksIn (terms_of lock) now reader.seat reader'.seat look) (seat_is : IsSeatOf lock reader'.seat) (checkpoint_is : reader'.checkpoint ≡ look.checkpoint)
-    (it : StandsAt named entries lock held fixed history) where
+    (it : ReaderStandsAt named entries lock held fixed history) where
   same : it.reader ≡ reader
   same = some_is (sym it.held_is ∙ is)
 
@@ -48,7 +48,7 @@ module _ (named : Option Lock) (entries : List (Event × ℕ)) (lock : Lock) (he
   valid : IsValid (fixed_of lock) now
   valid = record { rules = looks.stood.1.stands.rules; numbers = looks.stood.1.stands.query_numbers; legal = looks.stood.1.stands.legal }
 
-  pub stands_on : StandsAt named entries lock (Some reader') fixed (history ++ came.0)
+  pub stands_on : ReaderStandsAt named entries lock (Some reader') fixed (history ++ came.0)
   stands_on = record {
     reader = reader';
     held_is = refl;
@@ -73,14 +73,14 @@ module _ (named : Option Lock) (entries : List (Event × ℕ)) (lock : Lock) (he
 
 module _ (named : Option Lock) (entries : List (Event × ℕ)) (lock lock' : Lock) (held : Option Reader) (reader reader' : Reader) (more : List Event)
     (lock_is : named ≡ Some lock) (entries_is : entries ≡ own reader) (is : held ≡ Some reader')
-    (it : StandsAt named entries lock' held (fixed_of lock) (seen reader ++ more)) where
+    (it : ReaderStandsAt named entries lock' held (fixed_of lock) (seen reader ++ more)) where
   same' : it.reader ≡ reader'
   same' = some_is (sym it.held_is ∙ is)
 
   pub seen_on : seen reader' ≡ seen reader ++ more
   seen_on = ap seen (sym same') ∙ it.seen_is
 
-  pub goes_on : GoesOn lock reader reader'
+  pub goes_on : ReaderGoesOn lock reader reader'
   goes_on = record {
     at_end = subst (λ (l : Lock). IsAtEnd l reader') (some_is (sym it.lock_is ∙ lock_is)) (subst (λ (r : Reader). IsAtEnd lock' r) same' it.at_end);
     saw = (more, sym seen_on);

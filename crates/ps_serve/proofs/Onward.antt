@@ -15,7 +15,7 @@ use Rattle.ps_store.specs.CourseLaws.{IsLawful}
 use Rattle.ps_streams.specs.Runs.{Made, Turn, AreToldIn, Climbs, all_made, at_after, at_reached, made_by, reached, turn}
 use Rattle.ps_streams.specs.Turning.{IsUnderWay}
 use Rattle.ps_serve.specs.declared.outcomes.Served.{Served}
-use Rattle.ps_serve.specs.Runs.{line_of, lines_text}
+use Rattle.ps_serve.specs.Runs.{line_made, lines_text}
 use Rattle.ps_serve.specs.SharedRuns.{IsOwnTurn, AreOwnTurns, BeginsAt, IsRun, MeetsHeadline, lines_of, served_after, served_before_line, served_of}
 use Rattle.ps_serve.specs.SharedStreams.{HasBroken, HasStreamed}
 use Rattle.ps_serve.specs.Steps.{StepsOn, StepsPartly, lines_made}
@@ -44,7 +44,7 @@ own_on may_give exp limit course s [] last own one = (one, tt)
 own_on may_give exp limit course s (t ∷ ts) last own one = (own.0, own_on may_give exp limit course (turn course t.place s).session ts last own.1 one)
 
 -- what a turn makes does not hang on where the last take was
-lines_anywhere : (at n : ℕ) (line : Option Line) (expires : Option ℕ) → map line_of (made_by at line expires []) ≡ map line_of (made_by n line expires [])
+lines_anywhere : (at n : ℕ) (line : Option Line) (expires : Option ℕ) → map line_made (made_by at line expires []) ≡ map line_made (made_by n line expires [])
 lines_anywhere at n (Some line) expires = refl
 lines_anywhere at n None (Some seconds) = refl
 lines_anywhere at n None None = refl
@@ -52,22 +52,22 @@ lines_anywhere at n None None = refl
 lines_on : RunsGoOn → (course : Course) (positions : List Known) (start : ℕ) (turns : List Turn) (last : Turn)
     → lines_of course positions start (turns ++ last ∷ [])
     ≡ lines_of course positions start turns
-    ++ map line_of (made_by last.place (turn course last.place (reached course (begin (requested_in positions)) turns)).line last.expires [])
+    ++ map line_made (made_by last.place (turn course last.place (reached course (begin (requested_in positions)) turns)).line last.expires [])
 lines_on on course positions start turns last =
     let s = begin (requested_in positions) in
     let there = reached course s turns in
     let at = at_reached course start s turns in
     let now : List Made = made_by (at_after there.phase at last.place) (turn course last.place there).line last.expires [] in
-    ap (λ (ms : List Made). map line_of ms) (on course start s turns (last ∷ []))
-    ∙ map-append line_of (all_made course start s turns) now
+    ap (λ (ms : List Made). map line_made ms) (on course start s turns (last ∷ []))
+    ∙ map-append line_made (all_made course start s turns) now
     ∙ ap (λ (ls : List Line). lines_of course positions start turns ++ ls) (lines_anywhere (at_after there.phase at last.place) last.place (turn course last.place there).line last.expires)
 
 text_on : RunsGoOn → (course : Course) (positions : List Known) (front : List ℕ) (start : ℕ) (turns : List Turn) (last : Turn)
     → (front ++ lines_text (lines_of course positions start turns))
-    ++ lines_text (map line_of (made_by last.place (turn course last.place (reached course (begin (requested_in positions)) turns)).line last.expires []))
+    ++ lines_text (map line_made (made_by last.place (turn course last.place (reached course (begin (requested_in positions)) turns)).line last.expires []))
     ≡ front ++ lines_text (lines_of course positions start (turns ++ last ∷ []))
 text_on on course positions front start turns last =
-    let now = map line_of (made_by last.place (turn course last.place (reached course (begin (requested_in positions)) turns)).line last.expires []) in
+    let now = map line_made (made_by last.place (turn course last.place (reached course (begin (requested_in positions)) turns)).line last.expires []) in
     append_assoc front (lines_text (lines_of course positions start turns)) (lines_text now)
     ∙ ap (λ (text : List ℕ). front ++ text) (sym (ap lines_text (lines_on on course positions start turns last) ∙ lines_text-append (lines_of course positions start turns) now))
 
@@ -103,7 +103,7 @@ module _ (on : RunsGoOn) (climb : RunsClimbOn) (may_give : ℕ → Type 0) (exp 
         → HasStreamed may_give exp fixed asker positions low history front old new s' served'
     streamed_on s' step way =
         let all = it.turns ++ next step.expires ∷ [] in
-        let made : Option ℕ → SessionState → List Line = λ expires x. map line_of (made_by n (turn course n x).line expires []) in
+        let made : Option ℕ → SessionState → List Line = λ expires x. map line_made (made_by n (turn course n x).line expires []) in
         let at_is : at_reached course it.start begun all ≡ at_after s.phase (at_reached course it.start begun it.turns) n =
         at_reached_on course it.start begun it.turns (next step.expires ∷ []) ∙ ap (λ (x : SessionState). at_after x.phase (at_reached course it.start begun it.turns) n) (sym it.session_is) in
         let text = Gains-append old between new (front ++ lines_text (lines_of course positions it.start it.turns)) (lines_text (made step.expires s)) it.written step.written in
@@ -127,7 +127,7 @@ module _ (on : RunsGoOn) (climb : RunsClimbOn) (may_give : ℕ → Type 0) (exp 
     pub broken_on : StepsPartly may_give exp fixed.limits.buckets course n s served served' between new
         → HasBroken may_give exp fixed asker positions low history front old new served'
     broken_on step =
-        let made : Option ℕ → SessionState → List Line = λ expires x. map line_of (made_by n (turn course n x).line expires []) in
+        let made : Option ℕ → SessionState → List Line = λ expires x. map line_made (made_by n (turn course n x).line expires []) in
         let text = GainsFront-append old between new (front ++ lines_text (lines_of course positions it.start it.turns)) (lines_text (made step.expires s)) it.written step.written in
         let text_here = subst (λ (x : SessionState). GainsFront old new ((front ++ lines_text (lines_of course positions it.start it.turns)) ++ lines_text (made step.expires x))) it.session_is text in
         record {

@@ -10,7 +10,7 @@ use Rattle.ps_store.specs.declared.readings.TakeFault.{TakeFault}
 use Rattle.ps_store.specs.declared.readings.TakeFault.TheVariants.{TooManyBuckets, Memory}
 use Rattle.ps_store.specs.declared.stores.Store.{Store}
 use Rattle.ps_store.specs.Ledgers.{Ledger, ledger_of}
-use Rattle.ps_store.specs.Readings.{AreTold, take_of, taken_names}
+use Rattle.ps_store.specs.Readings.{AreToldBehindMark, take_of, taken_names}
 use Rattle.ps_store.specs.Courses.{Course, course_of}
 use Rattle.ps_store.specs.CourseLaws.{IsLawful, CoursesAreLawful, EndsAreWhole}
 use Rattle.ps_store.specs.Stores.{StoreStandsFor}
@@ -18,13 +18,13 @@ use Rattle.ps_session.specs.declared.actions.Action.{Action}
 use Rattle.ps_session.specs.declared.actions.Action.TheVariants.{Take, Read, Complete, Wait}
 use Rattle.ps_session.specs.declared.phases.Phase.{Phase}
 use Rattle.ps_session.specs.declared.phases.Phase.TheVariants.{Start, Download, Void, Done}
-use Rattle.ps_session.specs.Kept.{Kept, state_of}
+use Rattle.ps_session.specs.Kept.{KeptSession, state_of}
 use Rattle.ps_session.specs.Sessions.{SessionState, action_in, next_action}
 use Rattle.ps_streams.specs.declared.outcomes.TurnOutcome.{TurnOutcome}
 use Rattle.ps_streams.specs.Runs.{IsToldAt, IsToldIn, turn}
 use Rattle.ps_streams.specs.Ties.{HasTaken}
 use Rattle.ps_streams.specs.Turning.{IsUnderWay, TurnsSo, line_in, takes_in}
-use Rattle.ps_serve.specs.Runs.{Takes, TurnsTo}
+use Rattle.ps_serve.specs.Runs.{TakesFirst, TurnsTo}
 use Rattle.ps_serve.specs.Turning.{IsHere, course_for}
 
 -- ---- phases
@@ -54,7 +54,7 @@ pub lawful_of : CoursesAreLawful → (fixed : Fixed) (store : Store) (history : 
     → IsLawful (course_of fixed.rules history asker)
 lawful_of lawful fixed store history asker serves = lawful fixed.rules history asker serves.rules serves.query_numbers serves.legal
 
-pub under_way_here : (fixed : Fixed) (history : List Event) (session : Kept) → IsHere fixed history session
+pub under_way_here : (fixed : Fixed) (history : List Event) (session : KeptSession) → IsHere fixed history session
     → IsUnderWay (course_for fixed history session) (length history) (length history) (state_of session)
 under_way_here fixed history session here = record { taken = here; late = omega arith }
 
@@ -77,12 +77,12 @@ module _ (fixed : Fixed) (history : List Event) (asker : Asker) (before now : Se
 
   -- the first take
   pub takes_first : EndsAreWhole → before.phase ≡ Start → (result : Result (Option Line) TakeFault) → TurnsTo fixed history asker before now result
-      → Takes fixed history asker (turn course (length history) before) now result
+      → TakesFirst fixed history asker (turn course (length history) before) now result
   takes_first whole start (Ok line) it =
       let told : IsToldAt course (length history) = subst (λ (p : Phase). IsToldIn p course (length history)) start it.2 in (
         it.0,
         it.1,
-        subst (λ (l : Ledger). AreTold (taken_names (take_of l asker))) (whole fixed.rules history) told,
+        subst (λ (l : Ledger). AreToldBehindMark (taken_names (take_of l asker))) (whole fixed.rules history) told,
         it.3 (ap takes_in start),
       )
   takes_first whole start (Err (TooManyBuckets count)) it = it.1
@@ -99,9 +99,9 @@ takes_none session phase taking = by session.phase phase taking
     by Done is taking = cc
 
 -- what is taken there is told
-pub told_at_end : EndsAreWhole → (fixed : Fixed) (history : List Event) (asker : Asker) → AreTold (taken_names (take_of (ledger_of fixed.rules history) asker))
+pub told_at_end : EndsAreWhole → (fixed : Fixed) (history : List Event) (asker : Asker) → AreToldBehindMark (taken_names (take_of (ledger_of fixed.rules history) asker))
     → IsToldAt (course_of fixed.rules history asker) (length history)
-told_at_end whole fixed history asker told = subst (λ (l : Ledger). AreTold (taken_names (take_of l asker))) (sym (whole fixed.rules history)) told
+told_at_end whole fixed history asker told = subst (λ (l : Ledger). AreToldBehindMark (taken_names (take_of l asker))) (sym (whole fixed.rules history)) told
 
 -- before the first take nothing was taken
 pub untaken : (course : Course) (n : ℕ) (session : SessionState) → session.phase ≡ Start → HasTaken course n session

@@ -7,7 +7,7 @@ use Rattle.ps_io.specs.Contents.{Gains, GainsFront}
 use Rattle.ps_io.specs.Counts.{Rose}
 use Rattle.ps_lines.specs.declared.bodies.Known.{Known}
 use Rattle.ps_lines.specs.declared.lines.Line.{Line}
-use Rattle.ps_lines.specs.Writing.{text_of}
+use Rattle.ps_lines.specs.Writing.{text_of_line}
 use Rattle.ps_queries.specs.declared.askers.Asker.{Asker}
 use Rattle.ps_store.specs.declared.events.Event.{Event}
 use Rattle.ps_store.specs.declared.fixed.Fixed.{Fixed}
@@ -24,7 +24,7 @@ use Rattle.ps_streams.specs.Calls.{TurnsKeepTaken}
 use Rattle.ps_streams.specs.Ties.{HasTaken}
 use Rattle.ps_serve.specs.declared.ends.End.{End}
 use Rattle.ps_serve.specs.declared.ends.End.TheVariants.{Answered, Refused, Drained, Expired, PeerGone, CutRequest, TooMany, Memory}
-use Rattle.ps_serve.specs.Runs.{IsQuiet, IsRun, HasStreamed, HasStreamedFront, IsSending, TakesOnce, Ends, Sends, SendsInTime, SendsSo, StreamsOn, list_of, lines_text, line_of}
+use Rattle.ps_serve.specs.Runs.{IsQuiet, IsRun, HasStreamed, HasStreamedFront, IsSending, TakesOnce, EndsStream, Sends, SendsInTime, SendsSo, StreamsOn, list_of, lines_text, line_made}
 use Rattle.ps_serve.proofs.Sinks.{Gains-none, Gains-append, GainsFront-append}
 
 -- ---- runs
@@ -43,7 +43,7 @@ at_end Download n = refl
 at_end Void n = refl
 at_end Done n = refl
 
-made_lines : (at : ℕ) (line : Option Line) → map line_of (made_by at line None []) ≡ list_of line
+made_lines : (at : ℕ) (line : Option Line) → map line_made (made_by at line None []) ≡ list_of line
 made_lines at None = refl
 made_lines at (Some line) = refl
 
@@ -61,7 +61,7 @@ run_on on climb course place positions s lines told run =
     let at : ℕ = at_reached course place first run.turns in
     let before : List Made = all_made course place first run.turns in
     let now : List Made = made_by (at_after then'.phase at place) (turn course place then').line None [] in
-    let line_is : map line_of now ≡ list_of (turn course place s).line =
+    let line_is : map line_made now ≡ list_of (turn course place s).line =
     made_lines (at_after then'.phase at place) (turn course place then').line ∙ ap (λ (x : SessionState). list_of (turn course place x).line) (sym run.session_is) in
     let made_is : all_made course place first (run.turns ++ here place ∷ []) ≡ before ++ now = on course place first run.turns (here place ∷ []) in
     record {
@@ -70,8 +70,8 @@ run_on on climb course place positions s lines told run =
       told = told_on course first run.turns (here place ∷ []) run.told (subst (λ (x : SessionState). IsToldIn x.phase course place) run.session_is told, tt);
       quiet = All-append IsQuiet run.turns (here place ∷ []) run.quiet (All-cons IsQuiet (here place) [] refl (All-nil IsQuiet));
       session_is = ap (λ (x : SessionState). (turn course place x).session) run.session_is ∙ sym (reached_on course first run.turns (here place ∷ []));
-      lines_are = sym (ap (λ (ms : List Made). map line_of ms) made_is ∙ map-append line_of before now
-          ∙ ap (λ (ls : List Line). ls ++ map line_of now) (sym run.lines_are) ∙ ap (λ (ls : List Line). lines ++ ls) line_is);
+      lines_are = sym (ap (λ (ms : List Made). map line_made ms) made_is ∙ map-append line_made before now
+          ∙ ap (λ (ls : List Line). ls ++ map line_made now) (sym run.lines_are) ∙ ap (λ (ls : List Line). lines ++ ls) line_is);
     }
 
 pub taken_on : TurnsKeepTaken → (course : Course) (place : ℕ) (s : SessionState) → HasTaken course place s → HasTaken course place (turn course place s).session
@@ -81,7 +81,7 @@ taken_on keeps course place s taken = subst (λ (at : ℕ). HasTaken course at (
 
 pub lines_text-append : (xs ys : List Line) → lines_text (xs ++ ys) ≡ lines_text xs ++ lines_text ys
 lines_text-append [] ys = refl
-lines_text-append (x ∷ xs) ys = ap (λ (text : List ℕ). text_of x ++ text) (lines_text-append xs ys) ∙ sym (append_assoc (text_of x) (lines_text xs) (lines_text ys))
+lines_text-append (x ∷ xs) ys = ap (λ (text : List ℕ). text_of_line x ++ text) (lines_text-append xs ys) ∙ sym (append_assoc (text_of_line x) (lines_text xs) (lines_text ys))
 
 -- ---- what was written of a stream
 
@@ -217,7 +217,7 @@ sends_taking action may_give exp fixed history asker line old new before now (Er
 
 -- a stream that has nothing more to do
 pub completes : (may_give : ℕ → Type 0) (exp : ℕ) (fixed : Fixed) (history : List Event) (asker : Asker) (positions : List Known) (front : List ℕ) (done : List Line) (old new : Option (List ℕ)) (before now : ℕ)
-    (s : SessionState) (end : End) → s.phase ≡ Done → HasStreamed (course_of fixed.rules history asker) (length history) positions front done old new s → Ends s end
+    (s : SessionState) (end : End) → s.phase ≡ Done → HasStreamed (course_of fixed.rules history asker) (length history) positions front done old new s → EndsStream s end
     → StreamsOn may_give exp fixed history asker positions front done old new before now end
 completes may_give exp fixed history asker positions front done old new before now s Answered phase streamed end = (s, streamed, phase, end)
 completes may_give exp fixed history asker positions front done old new before now s Refused phase streamed end = absurd end

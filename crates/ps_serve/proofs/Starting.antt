@@ -18,7 +18,7 @@ use Rattle.ps_serve.specs.declared.refusals.Refusal.TheVariants as refusals
 use Rattle.ps_serve.specs.Answers.{head_text}
 use Rattle.ps_serve.specs.Readers.{Lock, HasTurnedAt, seen}
 use Rattle.ps_serve.specs.Runs.{lines_text, list_of}
-use Rattle.ps_serve.specs.Steps.{HasBegun}
+use Rattle.ps_serve.specs.Steps.{SessionHasBegun}
 
 module _ (lock : Lock) (reader : Reader) (asker : Asker) (s : SessionState) (start : s.phase ≡ Start) where
   -- before the first take nothing was taken
@@ -27,7 +27,7 @@ module _ (lock : Lock) (reader : Reader) (asker : Asker) (s : SessionState) (sta
 
   module _ (reader' : Reader) (s' : SessionState) where
     pub begins_ok : (outcome : TurnOutcome) (bytes : Vec ℕ Global) → HasTurnedAt lock reader reader' asker s s' (Ok outcome)
-        → bytes.items ≡ head_text 200 None ++ lines_text (list_of (line_in outcome)) → HasBegun lock reader reader' asker s s' (Ok bytes)
+        → bytes.items ≡ head_text 200 None ++ lines_text (list_of (line_in outcome)) → SessionHasBegun lock reader reader' asker s s' (Ok bytes)
     begins_ok outcome bytes it bytes_is =
         let t = it.turns (length (seen reader)) way in
         let n = length (seen reader') in
@@ -42,11 +42,11 @@ module _ (lock : Lock) (reader : Reader) (asker : Asker) (s : SessionState) (sta
           );
         }
 
-    pub begins_wanting : (outcome : TurnOutcome) → HasTurnedAt lock reader reader' asker s s' (Ok outcome) → HasBegun lock reader reader' asker s s' (Err refusals.Memory)
+    pub begins_wanting : (outcome : TurnOutcome) → HasTurnedAt lock reader reader' asker s s' (Ok outcome) → SessionHasBegun lock reader reader' asker s s' (Err refusals.Memory)
     begins_wanting outcome it = record { goes_on = it.goes_on; begins = tt }
 
-    pub begins_many : (count : ℕ) → HasTurnedAt lock reader reader' asker s s' (Err (takes.TooManyBuckets count)) → HasBegun lock reader reader' asker s s' (Err refusals.TooManyBuckets)
+    pub begins_many : (count : ℕ) → HasTurnedAt lock reader reader' asker s s' (Err (takes.TooManyBuckets count)) → SessionHasBegun lock reader reader' asker s s' (Err refusals.TooManyBuckets)
     begins_many count it = record { goes_on = it.goes_on; begins = (count, (it.turns (length (seen reader)) way).2) }
 
-    pub begins_none : HasTurnedAt lock reader reader' asker s s' (Err takes.Memory) → HasBegun lock reader reader' asker s s' (Err refusals.Memory)
+    pub begins_none : HasTurnedAt lock reader reader' asker s s' (Err takes.Memory) → SessionHasBegun lock reader reader' asker s s' (Err refusals.Memory)
     begins_none it = record { goes_on = it.goes_on; begins = tt }

@@ -14,7 +14,7 @@ use Rattle.ps_store.specs.declared.readings.TakeFault.TheVariants as takes
 use Rattle.ps_store.specs.Courses.{Course, course_of}
 use Rattle.ps_store.specs.CourseLaws.{EndsAreWhole}
 use Rattle.ps_store.specs.Ledgers.{Ledger, ledger_of}
-use Rattle.ps_store.specs.Readings.{bucket_upto, names_of, take_of}
+use Rattle.ps_store.specs.Readings.{bucket_upto, asker_bucket_names, take_of}
 use Rattle.ps_session.specs.declared.phases.Phase.{Phase}
 use Rattle.ps_session.specs.declared.phases.Phase.TheVariants.{Start, Download, Void, Done}
 use Rattle.ps_session.specs.Sessions.{SessionState}
@@ -26,18 +26,18 @@ use Rattle.ps_serve.specs.declared.ends.End.{End}
 use Rattle.ps_serve.specs.declared.ends.End.TheVariants.{Answered, Refused, Drained, Expired, PeerGone, CutRequest, TooMany, Memory}
 use Rattle.ps_serve.specs.declared.outcomes.Served.{Served}
 use Rattle.ps_serve.specs.declared.readers.Reader.{Reader}
-use Rattle.ps_serve.specs.Readers.{Lock, GoesOn, HasTurnedAt, IsAtEnd, own, seen}
-use Rattle.ps_serve.specs.Runs.{Sends, line_of, lines_text, list_of}
+use Rattle.ps_serve.specs.Readers.{Lock, ReaderGoesOn, HasTurnedAt, IsAtEnd, own, seen}
+use Rattle.ps_serve.specs.Runs.{Sends, line_made, lines_text, list_of}
 use Rattle.ps_serve.specs.SharedRuns.{IsFewIn, IsOwnTurn, TellsTime, complete_last, completes, served_after, served_at, served_before_line, with_take}
 use Rattle.ps_serve.specs.SharedStreams.{TakesAgain}
-use Rattle.ps_serve.specs.Steps.{HasSent, HasStepped, Puts, StandsStill, Steps, StepsOn, StepsPartly, Writes, WritesSent, WritesTake, lines_made, take_lines}
+use Rattle.ps_serve.specs.Steps.{HasSent, HasStepped, Puts, StandsStill, Steps, StepsOn, StepsPartly, WritesText, WritesSent, WritesTake, lines_made, take_lines}
 
 -- ---- readers
 
-pub stays : (lock : Lock) (reader : Reader) → IsAtEnd lock reader → GoesOn lock reader reader
+pub stays : (lock : Lock) (reader : Reader) → IsAtEnd lock reader → ReaderGoesOn lock reader reader
 stays lock reader at_end = record { at_end = at_end; saw = prefix_self (seen reader); own_is = refl }
 
-pub goes_far : (lock : Lock) (first then' last : Reader) → GoesOn lock first then' → GoesOn lock then' last → GoesOn lock first last
+pub goes_far : (lock : Lock) (first then' last : Reader) → ReaderGoesOn lock first then' → ReaderGoesOn lock then' last → ReaderGoesOn lock first last
 goes_far lock first then' last a b = record {
   at_end = b.at_end;
   saw = prefix_trans (seen first) (seen then') (seen last) a.saw b.saw;
@@ -46,7 +46,7 @@ goes_far lock first then' last a b = record {
 
 -- ---- lines
 
-made_lines : (n : ℕ) (line : Option Line) → map line_of (made_by n line None []) ≡ list_of line
+made_lines : (n : ℕ) (line : Option Line) → map line_made (made_by n line None []) ≡ list_of line
 made_lines n None = refl
 made_lines n (Some line) = refl
 
@@ -55,7 +55,7 @@ abbrev expires_of : ℕ → Option Line → Option ℕ
 expires_of seconds None = Some seconds
 expires_of seconds (Some line) = None
 
-told_lines : (n seconds : ℕ) (line : Option Line) → map line_of (made_by n line (expires_of seconds line) []) ≡ take_lines seconds line
+told_lines : (n seconds : ℕ) (line : Option Line) → map line_made (made_by n line (expires_of seconds line) []) ≡ take_lines seconds line
 told_lines n seconds None = refl
 told_lines n seconds (Some line) = refl
 
@@ -176,13 +176,13 @@ few_in may_give exp limit Void course n few = few
 few_in may_give exp limit Done course n few = few
 
 -- what is taken at the end of a history has as many buckets as there are names
-pub few_taken : EndsAreWhole → (fixed : Fixed) (history : List Event) (asker : Asker) → length (names_of (ledger_of fixed.rules history) asker) ≤ fixed.limits.buckets
+pub few_taken : EndsAreWhole → (fixed : Fixed) (history : List Event) (asker : Asker) → length (asker_bucket_names (ledger_of fixed.rules history) asker) ≤ fixed.limits.buckets
     → length ((course_of fixed.rules history asker).take (length history)).buckets ≤ fixed.limits.buckets
 few_taken whole fixed history asker few =
     let l = ledger_of fixed.rules history in
     let taken : (course_of fixed.rules history asker).take (length history) ≡ take_of l asker = ap (λ (x : Ledger). take_of x asker) (whole fixed.rules history) in
-    let count : length ((course_of fixed.rules history asker).take (length history)).buckets ≡ length (names_of l asker) =
-    ap (λ (t : Taken). length t.buckets) taken ∙ length-map (names_of l asker) (λ (name : List ℕ). bucket_upto l.op name (l.log name)) in
+    let count : length ((course_of fixed.rules history asker).take (length history)).buckets ≡ length (asker_bucket_names l asker) =
+    ap (λ (t : Taken). length t.buckets) taken ∙ length-map (asker_bucket_names l asker) (λ (name : List ℕ). bucket_upto l.op name (l.log name)) in
     omega (arith, few, count)
 
 -- and its checkpoint is the reader's
@@ -211,7 +211,7 @@ module _ (may_give : ℕ → Type 0) (exp : ℕ) (lock : Lock) (reader reader' :
   abbrev n' : ℕ
   n' = length (seen reader')
 
-  pub again_late : (moment : ℕ) → GoesOn lock reader reader' → may_give moment → exp ≤ moment → new ≡ old → served' ≡ served
+  pub again_late : (moment : ℕ) → ReaderGoesOn lock reader reader' → may_give moment → exp ≤ moment → new ≡ old → served' ≡ served
       → HasStepped may_give exp lock reader reader' asker s s' served served' old new before now (Err (Expired moment))
   again_late moment goes given late same served_same = record {
     goes_on = goes;
@@ -219,7 +219,7 @@ module _ (may_give : ℕ → Type 0) (exp : ℕ) (lock : Lock) (reader reader' :
     under_way = λ at is way. cc;
   }
 
-  pub again_memory : GoesOn lock reader reader' → new ≡ old → served' ≡ served
+  pub again_memory : ReaderGoesOn lock reader reader' → new ≡ old → served' ≡ served
       → HasStepped may_give exp lock reader reader' asker s s' served served' old new before now (Err Memory)
   again_memory goes same served_same = record {
     goes_on = goes;
@@ -306,7 +306,7 @@ module _ (may_give : ℕ → Type 0) (exp : ℕ) (lock : Lock) (reader reader' :
 -- ---- what is written
 
 pub puts_so : (text : List ℕ) (noted served served' : List Served) (old new : Option (List ℕ)) (before now : ℕ) (result : Result (Unit {0}) End) → served' ≡ noted
-    → Puts text old new before now result → Writes text noted noted served served' old new before now result
+    → Puts text old new before now result → WritesText text noted noted served served' old new before now result
 puts_so text noted served served' old new before now (Ok done) is puts = (is, puts)
 puts_so text noted served served' old new before now (Err Answered) is puts = puts
 puts_so text noted served served' old new before now (Err Refused) is puts = puts

@@ -10,7 +10,7 @@ use Rattle.ps_store.specs.declared.stores.Store.{Store}
 use Rattle.ps_store.specs.Courses.{Course, course_of}
 use Rattle.ps_store.specs.CourseLaws.{CoursesAreLawful, EndsAreWhole}
 use Rattle.ps_store.specs.Ledgers.{ledger_of}
-use Rattle.ps_store.specs.Readings.{AreTold, take_of, taken_names}
+use Rattle.ps_store.specs.Readings.{AreToldBehindMark, take_of, taken_names}
 use Rattle.ps_store.specs.Stores.{StoreStandsFor}
 use Rattle.ps_session.specs.declared.actions.Action.{Action}
 use Rattle.ps_session.specs.declared.phases.Phase.{Phase}
@@ -18,7 +18,7 @@ use Rattle.ps_session.specs.declared.phases.Phase.TheVariants.{Start, Download}
 use Rattle.ps_streams.specs.Calls.{TurnsKeepTaken}
 use Rattle.ps_streams.specs.Downloads.{ReadsSendOn}
 use Rattle.ps_streams.specs.Headline.{RunsGoOn, RunsClimbOn}
-use Rattle.ps_session.specs.Kept.{Kept, state_of}
+use Rattle.ps_session.specs.Kept.{KeptSession, state_of}
 use Rattle.ps_streams.specs.Runs.{IsToldIn, turn, turn_in}
 use Rattle.ps_session.specs.Sessions.{SessionState, Turned, begin, next_action, requested_in}
 use Rattle.ps_streams.specs.Ties.{HasTaken}
@@ -31,13 +31,13 @@ use Rattle.ps_serve.proofs.Running.{run_begins, run_on, taken_on, streamed_on, e
 
 -- ---- one turn more
 
-pub goes_on : ReadsSendOn → CoursesAreLawful → (fixed : Fixed) (store : Store) (history : List Event) (session now : Kept) → StoreStandsFor fixed store history → IsHere fixed history session
+pub goes_on : ReadsSendOn → CoursesAreLawful → (fixed : Fixed) (store : Store) (history : List Event) (session now : KeptSession) → StoreStandsFor fixed store history → IsHere fixed history session
     → (state_of session).phase ≡ Download → state_of now ≡ (turn_for fixed history session).session → GoesOn (state_of session) (state_of now)
 goes_on falls lawful fixed store history session now serves here phase now_is =
     subst (λ (s : SessionState). GoesOn (state_of session) s) (sym now_is)
     (turn_goes_on falls (course_for fixed history session) (length history) (state_of session) (lawful_of lawful fixed store history session.asker serves) here phase)
 
-module _ (fixed : Fixed) (history : List Event) (session : Kept) (own : Asker) (same : session.asker ≡ own) where
+module _ (fixed : Fixed) (history : List Event) (session : KeptSession) (own : Asker) (same : session.asker ≡ own) where
   abbrev own_course : Course
   own_course = course_of fixed.rules history own
 
@@ -47,7 +47,7 @@ module _ (fixed : Fixed) (history : List Event) (session : Kept) (own : Asker) (
   pub here_for : HasTaken own_course (length history) (state_of session) → IsHere fixed history session
   here_for taken = subst (λ (asker : Asker). HasTaken (course_of fixed.rules history asker) (length history) (state_of session)) (sym same) taken
 
-  module _ (now : Kept) (now_is : state_of now ≡ (turn_for fixed history session).session) where
+  module _ (now : KeptSession) (now_is : state_of now ≡ (turn_for fixed history session).session) where
     own_is : state_of now ≡ (turn own_course (length history) (state_of session)).session
     own_is = now_is ∙ ap (λ (t : Turned). t.session) own_turn
 
@@ -76,8 +76,8 @@ module _ (fixed : Fixed) (history : List Event) (session : Kept) (own : Asker) (
 
 -- ---- the first turn
 
-module _ (on : RunsGoOn) (climb : RunsClimbOn) (whole : EndsAreWhole) (fixed : Fixed) (history : List Event) (positions : List Known) (session : Kept)
-    (session_is : state_of session ≡ begin (requested_in positions)) (told : AreTold (taken_names (take_of (ledger_of fixed.rules history) session.asker))) where
+module _ (on : RunsGoOn) (climb : RunsClimbOn) (whole : EndsAreWhole) (fixed : Fixed) (history : List Event) (positions : List Known) (session : KeptSession)
+    (session_is : state_of session ≡ begin (requested_in positions)) (told : AreToldBehindMark (taken_names (take_of (ledger_of fixed.rules history) session.asker))) where
   started : (state_of session).phase ≡ Start
   started = ap (λ (s : SessionState). s.phase) session_is
 
@@ -90,7 +90,7 @@ module _ (on : RunsGoOn) (climb : RunsClimbOn) (whole : EndsAreWhole) (fixed : F
       (subst (λ (p : Phase). IsToldIn p (course_for fixed history session) (length history)) (sym started) (told_at_end whole fixed history session.asker told))
       (subst (λ (s : SessionState). IsRun (course_for fixed history session) (length history) positions s []) (sym session_is) (run_begins (course_for fixed history session) (length history) positions))
 
-  pub streams_first : TurnsKeepTaken → (now : Kept) → now.asker ≡ session.asker → state_of now ≡ (turn_for fixed history session).session
+  pub streams_first : TurnsKeepTaken → (now : KeptSession) → now.asker ≡ session.asker → state_of now ≡ (turn_for fixed history session).session
       → IsStreamingFor fixed history positions now (list_of (turn_for fixed history session).line)
   streams_first keeps now same now_is =
       subst (λ (asker : Asker). IsStreaming (course_of fixed.rules history asker) (length history) positions (state_of now) (list_of (turn_for fixed history session).line)) (sym same)

@@ -27,7 +27,7 @@ DoesSo may_give fixed history (Ok it) store store' old new before now status end
 DoesSo may_give fixed history (Err refusal) store store' old new before now status end = (store' ≡ store) × Refuses refusal old new before now status end
 
 -- the request was read, and it was done or refused
-pub record Answers (may_give : ℕ → Type 0) (keys : List Key) (fixed : Fixed) (history : List Event) (from from' : Option Input) (read read' : ℕ)
+pub record AnswersRequest (may_give : ℕ → Type 0) (keys : List Key) (fixed : Fixed) (history : List Event) (from from' : Option Input) (read read' : ℕ)
     (store store' : Store) (old new : Option (List ℕ)) (before now status : ℕ) (end : End) : Type 0 where
   pub it : Result Asked Refusal
   pub asks : Asks may_give keys from from' read read' it

@@ -36,13 +36,13 @@ pub record IsAtEnd (lock : Lock) (reader : Reader) : Type 0 where
   pub op : reader.checkpoint.op.0 ≡ (ledger_of (fixed_of lock).rules (seen reader)).op
 
 -- it went on, and added nothing
-pub record GoesOn (lock : Lock) (before after : Reader) : Type 0 where
+pub record ReaderGoesOn (lock : Lock) (before after : Reader) : Type 0 where
   pub at_end : IsAtEnd lock after
   pub saw : IsPrefix (seen before) (seen after)
   pub own_is : own after ≡ own before
 
 -- what is read through a reader of the named lock, with these own entries, stands at the end of what it has seen
-pub record StandsAt (named : Option Lock) (entries : List (Event × ℕ)) (lock : Lock) (held : Option Reader) (fixed : Fixed) (history : List Event) : Type 0 where
+pub record ReaderStandsAt (named : Option Lock) (entries : List (Event × ℕ)) (lock : Lock) (held : Option Reader) (fixed : Fixed) (history : List Event) : Type 0 where
   pub reader : Reader
   pub held_is : held ≡ Some reader
   pub lock_is : named ≡ Some lock
@@ -54,6 +54,6 @@ pub record StandsAt (named : Option Lock) (entries : List (Event × ℕ)) (lock 
 
 -- a session under way made a turn where the reader then stood, or none
 pub record HasTurnedAt (lock : Lock) (before after : Reader) (asker : Asker) (old new : SessionState) (result : Result TurnOutcome TakeFault) : Type 0 where
-  pub goes_on : GoesOn lock before after
+  pub goes_on : ReaderGoesOn lock before after
   pub turns : (at : ℕ) → IsUnderWay (course_of (fixed_of lock).rules (seen before) asker) (length (seen before)) at old
       → TurnsSo (fixed_of lock) (seen after) asker at old new result

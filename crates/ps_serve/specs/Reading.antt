@@ -4,7 +4,7 @@ use Rattle.std.specs.declared.alloc.Global.{Global}
 use Rattle.ps_io.specs.Counts.{Rose}
 use Rattle.ps_io.specs.Sources.{Input, Gives, GivesAll}
 use Rattle.ps_http.specs.declared.heads.Head.{Head}
-use Rattle.ps_http.specs.Heads.{head_limit, IsHead, IsBadHead, IsUnfinished, Took}
+use Rattle.ps_http.specs.Heads.{head_limit, IsHead, IsBadHead, IsUnfinished, TookBytes}
 use Rattle.ps_token.specs.declared.key_lists.Key.{Key}
 use Rattle.ps_serve.specs.declared.asked.Asked.{Asked}
 use Rattle.ps_serve.specs.declared.refusals.Refusal.{Refusal}
@@ -14,12 +14,12 @@ use Rattle.ps_serve.specs.Requests.{IsOpen, stated, length_of, asked_of}
 -- ---- the head
 
 -- the source handed out a head
-abbrev pub HasHead : Option Input → Option Input → Head → Type 0
-HasHead old new head = (bytes : List ℕ) × Gives old new bytes × (length bytes ≤ head_limit) × IsHead bytes head
+abbrev pub HasRequestHead : Option Input → Option Input → Head → Type 0
+HasRequestHead old new head = (bytes : List ℕ) × Gives old new bytes × (length bytes ≤ head_limit) × IsHead bytes head
 
 -- what it handed out is no head and begins none
 abbrev pub HasBadHead : Option Input → Option Input → Type 0
-HasBadHead old new = (bytes : List ℕ) × Took old new bytes × (length bytes ≤ head_limit) × IsBadHead bytes
+HasBadHead old new = (bytes : List ℕ) × TookBytes old new bytes × (length bytes ≤ head_limit) × IsBadHead bytes
 
 -- no head ended within the limit
 abbrev pub HasLongHead : Option Input → Option Input → Type 0
@@ -59,15 +59,15 @@ HasBody head old new before now (Err TooManyBuckets) = ⊥
 HasBody head old new before now (Err Memory) = Unit {0}
 
 -- the number of bytes that are read, none where a refusal comes before
-abbrev pub count_of : Result ℕ Refusal → ℕ
-count_of (Ok count) = count
-count_of (Err refusal) = 0
+abbrev pub body_count : Result ℕ Refusal → ℕ
+body_count (Ok count) = count
+body_count (Err refusal) = 0
 
 -- behind a head exactly the bytes of its body were read, if any, and this is what they ask for
 pub record IsBehind (keys : List Key) (moment : ℕ) (head : Head) (old new : Option Input) (asked : Result Asked Refusal) : Type 0 where
   pub body : List ℕ
   pub given : Gives old new body
-  pub whole : length body ≡ count_of (length_of keys moment head)
+  pub whole : length body ≡ body_count (length_of keys moment head)
   pub asked_is : asked_of keys moment head body ≡ asked
 
 -- the source ended or failed inside the body
@@ -96,7 +96,7 @@ AsksBehind keys moment head old new before now (Err Memory) = IsOpen head
 pub record IsRead (may_give : ℕ → Type 0) (keys : List Key) (old new : Option Input) (asked : Result Asked Refusal) : Type 0 where
   pub head : Head
   pub between : Option Input
-  pub has_head : HasHead old between head
+  pub has_head : HasRequestHead old between head
   pub moment : ℕ
   pub given : may_give moment
   pub behind : IsBehind keys moment head between new asked
@@ -105,14 +105,14 @@ pub record IsRead (may_give : ℕ → Type 0) (keys : List Key) (old new : Optio
 pub record IsCutInBody (may_give : ℕ → Type 0) (keys : List Key) (old new : Option Input) (before now : ℕ) : Type 0 where
   pub head : Head
   pub between : Option Input
-  pub has_head : HasHead old between head
+  pub has_head : HasRequestHead old between head
   pub moment : ℕ
   pub given : may_give moment
   pub ends : EndsInBody keys moment head between new before now
 
 -- a head was read, and no refusal applies that needs no memory
 abbrev pub IsPastHead : Option Input → Option Input → Type 0
-IsPastHead old new = (head : Head) × (between : Option Input) × HasHead old between head × IsOpen head
+IsPastHead old new = (head : Head) × (between : Option Input) × HasRequestHead old between head × IsOpen head
 
 -- what was asked for, or the cause of each refusal. Memory may be wanting while the head is read; behind it only where the path, the method
 -- and that a token is named are as they should be

@@ -14,17 +14,17 @@ use Rattle.ps_serve.specs.declared.refusals.Refusal.{Refusal}
 use Rattle.ps_serve.specs.declared.refusals.Refusal.TheVariants.{Cut, BadRequest, Unauthorized, NotFound, NotAllowed, Conflict, LengthRequired, TooLarge, TooManyBuckets, Memory}
 
 -- the status of a refusal's answer, 0 where there is none
-abbrev pub status_of : Refusal → ℕ
-status_of Cut = 0
-status_of BadRequest = 400
-status_of Unauthorized = 401
-status_of NotFound = 404
-status_of NotAllowed = 405
-status_of Conflict = 409
-status_of LengthRequired = 411
-status_of TooLarge = 413
-status_of TooManyBuckets = 422
-status_of Memory = 503
+abbrev pub refusal_status : Refusal → ℕ
+refusal_status Cut = 0
+refusal_status BadRequest = 400
+refusal_status Unauthorized = 401
+refusal_status NotFound = 404
+refusal_status NotAllowed = 405
+refusal_status Conflict = 409
+refusal_status LengthRequired = 411
+refusal_status TooLarge = 413
+refusal_status TooManyBuckets = 422
+refusal_status Memory = 503
 
 -- ---- the faults of readers
 
@@ -77,9 +77,9 @@ or_refusal refusal (Some x) = Ok x
 or_refusal refusal None = Err refusal
 
 -- a test holds, or else a refusal
-abbrev pub holds : Refusal → Bool → Result (Unit {0}) Refusal
-holds refusal true = Ok tt
-holds refusal false = Err refusal
+abbrev pub holds_or : Refusal → Bool → Result (Unit {0}) Refusal
+holds_or refusal true = Ok tt
+holds_or refusal false = Err refusal
 
 -- what was read, whatever a reader's fault is called
 abbrev pub or_bad : {A E : Type 0} → Refusal → Result A E → Result A Refusal

@@ -18,7 +18,7 @@ use Rattle.ps_serve.specs.declared.refusals.Refusal.{Refusal}
 use Rattle.ps_serve.specs.declared.refusals.Refusal.TheVariants.{BadRequest, Unauthorized, NotFound, NotAllowed, LengthRequired, TooLarge}
 use Rattle.ps_serve.specs.declared.ways.Way.{Way}
 use Rattle.ps_serve.specs.declared.ways.Way.TheVariants.{Stream, Number, Upload}
-use Rattle.ps_serve.specs.Refusals.{◌>>=◌, or_refusal, holds, or_bad}
+use Rattle.ps_serve.specs.Refusals.{◌>>=◌, or_refusal, holds_or, or_bad}
 
 -- ---- the path and its method
 
@@ -54,7 +54,7 @@ verified keys now authorization = do
 abbrev pub admitted : List Key → ℕ → Head → Result Pass Refusal
 admitted keys now head = do
   way ← or_refusal NotFound (way_of head.path)
-  _ ← holds NotAllowed (bytes_eq head.method (method_of way))
+  _ ← holds_or NotAllowed (bytes_eq head.method (method_of way))
   claims ← verified keys now head.authorization
   Ok (record { way = way; claims = claims })
 
@@ -76,13 +76,13 @@ pub record IsOpen (head : Head) : Type 0 where
 
 -- ---- the length of the body
 
-abbrev pub within : Option ℕ → Result ℕ Refusal
-within None = Err LengthRequired
-within (Some length) = if nat_lt body_limit length then Err TooLarge else Ok length
+abbrev pub within_body_limit : Option ℕ → Result ℕ Refusal
+within_body_limit None = Err LengthRequired
+within_body_limit (Some length) = if nat_lt body_limit length then Err TooLarge else Ok length
 
 -- the length of the body that a head states
 abbrev pub stated : Head → Result ℕ Refusal
-stated head = if head.chunked then Err LengthRequired else within head.length
+stated head = if head.chunked then Err LengthRequired else within_body_limit head.length
 
 -- how many bytes are read behind a head
 abbrev pub length_for : Way → Head → Result ℕ Refusal

@@ -5,7 +5,7 @@ use Rattle.ps_io.specs.Contents.{Gains, GainsFront}
 use Rattle.ps_io.specs.Counts.{Rose}
 use Rattle.ps_lines.specs.declared.bodies.Known.{Known}
 use Rattle.ps_lines.specs.declared.lines.Line.{Line}
-use Rattle.ps_lines.specs.Writing.{text_of}
+use Rattle.ps_lines.specs.Writing.{text_of_line}
 use Rattle.ps_queries.specs.declared.askers.Asker.{Asker}
 use Rattle.ps_store.specs.declared.events.Event.{Event}
 use Rattle.ps_store.specs.declared.fixed.Fixed.{Fixed}
@@ -13,7 +13,7 @@ use Rattle.ps_store.specs.declared.readings.TakeFault.{TakeFault}
 use Rattle.ps_store.specs.declared.readings.TakeFault.TheVariants as takes
 use Rattle.ps_store.specs.Courses.{Course, course_of}
 use Rattle.ps_store.specs.Ledgers.{ledger_of}
-use Rattle.ps_store.specs.Readings.{AreTold, AreTooMany, names_of, take_of, taken_names}
+use Rattle.ps_store.specs.Readings.{AreToldBehindMark, AreTooMany, asker_bucket_names, take_of, taken_names}
 use Rattle.ps_session.specs.declared.actions.Action.{Action}
 use Rattle.ps_session.specs.declared.actions.Action.TheVariants.{Take}
 use Rattle.ps_session.specs.declared.phases.Phase.{Phase}
@@ -38,10 +38,10 @@ list_of (Some line) = line ∷ []
 -- the bytes of lines
 abbrev pub lines_text : List Line → List ℕ
 lines_text [] = []
-lines_text (line ∷ lines) = text_of line ++ lines_text lines
+lines_text (line ∷ lines) = text_of_line line ++ lines_text lines
 
-abbrev pub line_of : Made → Line
-line_of made = made.line
+abbrev pub line_made : Made → Line
+line_made made = made.line
 
 -- ---- runs
 
@@ -57,7 +57,7 @@ pub record IsRun (course : Course) (place : ℕ) (positions : List Known) (sessi
   pub told : AreToldIn course (begin (requested_in positions)) turns
   pub quiet : All IsQuiet turns
   pub session_is : session ≡ reached course (begin (requested_in positions)) turns
-  pub lines_are : lines ≡ map line_of (all_made course place (begin (requested_in positions)) turns)
+  pub lines_are : lines ≡ map line_made (all_made course place (begin (requested_in positions)) turns)
 
 -- what was taken last, was taken there
 pub record IsStreaming (course : Course) (place : ℕ) (positions : List Known) (session : SessionState) (lines : List Line) : Type 0 where
@@ -114,7 +114,7 @@ SendsSo action may_give exp fixed history asker line old new before now (Err Mem
 
 -- the asker has at most as many buckets as the limit
 abbrev pub AreFew : Fixed → List Event → Asker → Type 0
-AreFew fixed history asker = length (names_of (ledger_of fixed.rules history) asker) ≤ fixed.limits.buckets
+AreFew fixed history asker = length (asker_bucket_names (ledger_of fixed.rules history) asker) ≤ fixed.limits.buckets
 
 -- the session's turn at the end of the history was made and this is its line; or why not: too many buckets only where a checkpoint was
 -- to be taken
@@ -126,11 +126,11 @@ TurnsTo fixed history asker before now (Err (takes.TooManyBuckets count)) = (tak
 TurnsTo fixed history asker before now (Err takes.Memory) = Unit {0}
 
 -- the first checkpoint was taken and this is its line; or why not
-abbrev pub Takes : Fixed → List Event → Asker → Turned → SessionState → Result (Option Line) TakeFault → Type 0
-Takes fixed history asker turned session (Ok line) =
-    (session ≡ turned.session) × (line ≡ turned.line) × AreTold (taken_names (take_of (ledger_of fixed.rules history) asker)) × AreFew fixed history asker
-Takes fixed history asker turned session (Err (takes.TooManyBuckets count)) = AreTooMany fixed.limits (ledger_of fixed.rules history) asker count
-Takes fixed history asker turned session (Err takes.Memory) = Unit {0}
+abbrev pub TakesFirst : Fixed → List Event → Asker → Turned → SessionState → Result (Option Line) TakeFault → Type 0
+TakesFirst fixed history asker turned session (Ok line) =
+    (session ≡ turned.session) × (line ≡ turned.line) × AreToldBehindMark (taken_names (take_of (ledger_of fixed.rules history) asker)) × AreFew fixed history asker
+TakesFirst fixed history asker turned session (Err (takes.TooManyBuckets count)) = AreTooMany fixed.limits (ledger_of fixed.rules history) asker count
+TakesFirst fixed history asker turned session (Err takes.Memory) = Unit {0}
 
 -- ---- the whole stream
 
@@ -178,31 +178,31 @@ TakesOnce (TooMany count) = ⊥
 TakesOnce Memory = Unit {0}
 
 -- whether all that will ever be is shown
-abbrev pub Ends : SessionState → End → Type 0
-Ends session Answered = ¬ IsDrained session
-Ends session Refused = ⊥
-Ends session Drained = IsDrained session
-Ends session (Expired moment) = ⊥
-Ends session PeerGone = ⊥
-Ends session CutRequest = ⊥
-Ends session (TooMany count) = ⊥
-Ends session Memory = ⊥
+abbrev pub EndsStream : SessionState → End → Type 0
+EndsStream session Answered = ¬ IsDrained session
+EndsStream session Refused = ⊥
+EndsStream session Drained = IsDrained session
+EndsStream session (Expired moment) = ⊥
+EndsStream session PeerGone = ⊥
+EndsStream session CutRequest = ⊥
+EndsStream session (TooMany count) = ⊥
+EndsStream session Memory = ⊥
 
 -- what the first take answers: its line, or a refusal
-abbrev pub Begins : Fixed → List Event → Asker → Turned → SessionState → Result (Vec ℕ Global) Refusal → Type 0
-Begins fixed history asker turned session (Ok bytes) =
-    (session ≡ turned.session) × (bytes.items ≡ lines_text (list_of turned.line)) × AreTold (taken_names (take_of (ledger_of fixed.rules history) asker))
+abbrev pub BeginsStream : Fixed → List Event → Asker → Turned → SessionState → Result (Vec ℕ Global) Refusal → Type 0
+BeginsStream fixed history asker turned session (Ok bytes) =
+    (session ≡ turned.session) × (bytes.items ≡ lines_text (list_of turned.line)) × AreToldBehindMark (taken_names (take_of (ledger_of fixed.rules history) asker))
     × AreFew fixed history asker
-Begins fixed history asker turned session (Err refusals.Cut) = ⊥
-Begins fixed history asker turned session (Err refusals.BadRequest) = ⊥
-Begins fixed history asker turned session (Err refusals.Unauthorized) = ⊥
-Begins fixed history asker turned session (Err refusals.NotFound) = ⊥
-Begins fixed history asker turned session (Err refusals.NotAllowed) = ⊥
-Begins fixed history asker turned session (Err refusals.Conflict) = ⊥
-Begins fixed history asker turned session (Err refusals.LengthRequired) = ⊥
-Begins fixed history asker turned session (Err refusals.TooLarge) = ⊥
-Begins fixed history asker turned session (Err refusals.TooManyBuckets) = (count : ℕ) × AreTooMany fixed.limits (ledger_of fixed.rules history) asker count
-Begins fixed history asker turned session (Err refusals.Memory) = Unit {0}
+BeginsStream fixed history asker turned session (Err refusals.Cut) = ⊥
+BeginsStream fixed history asker turned session (Err refusals.BadRequest) = ⊥
+BeginsStream fixed history asker turned session (Err refusals.Unauthorized) = ⊥
+BeginsStream fixed history asker turned session (Err refusals.NotFound) = ⊥
+BeginsStream fixed history asker turned session (Err refusals.NotAllowed) = ⊥
+BeginsStream fixed history asker turned session (Err refusals.Conflict) = ⊥
+BeginsStream fixed history asker turned session (Err refusals.LengthRequired) = ⊥
+BeginsStream fixed history asker turned session (Err refusals.TooLarge) = ⊥
+BeginsStream fixed history asker turned session (Err refusals.TooManyBuckets) = (count : ℕ) × AreTooMany fixed.limits (ledger_of fixed.rules history) asker count
+BeginsStream fixed history asker turned session (Err refusals.Memory) = Unit {0}
 
 -- the first take was refused, and so the request; or it was not, and the head and the first lines of a stream were written. The store stands
 -- still, so that nothing is taken again: neither the token's end nor too many buckets end it

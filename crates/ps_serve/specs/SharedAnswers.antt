@@ -17,7 +17,7 @@ use Rattle.ps_store.specs.declared.faults.FeedFault.TheVariants as feeding
 use Rattle.ps_store.specs.declared.fixed.Fixed.{Fixed}
 use Rattle.ps_store.specs.Courses.{course_of, ledger_at}
 use Rattle.ps_store.specs.Ledgers.{Ledger, head_of, last_number}
-use Rattle.ps_store.specs.Readings.{names_of}
+use Rattle.ps_store.specs.Readings.{asker_bucket_names}
 use Rattle.ps_streams.specs.Serving.{IsValid}
 use Rattle.ps_serve.specs.declared.asked.Asked.{Asked}
 use Rattle.ps_serve.specs.declared.asked.Asked.TheVariants as asked
@@ -120,7 +120,7 @@ module _ (fixed : Fixed) (low : ℕ) (history : List Event) where
 
   -- nowhere past what was seen before are there too many buckets
   abbrev pub AreFewThroughout : Asker → Type 0
-  AreFewThroughout asker = (place : ℕ) → low ≤ place → place ≤ length history → length (names_of (ledger_at fixed.rules history place) asker) ≤ fixed.limits.buckets
+  AreFewThroughout asker = (place : ℕ) → low ≤ place → place ≤ length history → length (asker_bucket_names (ledger_at fixed.rules history place) asker) ≤ fixed.limits.buckets
 
   -- a stream that was asked for, where that is wanted, ends drained or out of memory, if the clock gives no moment that is not before the
   -- token's end, there are never too many buckets, and no write failed

@@ -14,7 +14,7 @@ use Rattle.ps_streams.specs.Headline.{AreHonest, AsksOn, Meets}
 use Rattle.ps_streams.specs.Runs.{Made, Turn, IsToldIn, Climbs, all_made, at_reached, reached, turn}
 use Rattle.ps_streams.specs.Turning.{takes_in}
 use Rattle.ps_serve.specs.declared.outcomes.Served.{Served}
-use Rattle.ps_serve.specs.Runs.{line_of}
+use Rattle.ps_serve.specs.Runs.{line_made}
 
 -- ---- what is told of the checkpoints
 
@@ -112,4 +112,4 @@ module _ (may_give : ℕ → Type 0) (exp limit : ℕ) where
 
 -- the lines of a run
 abbrev pub lines_of : Course → List Known → ℕ → List Turn → List Line
-lines_of course positions start turns = map line_of (all_made course start (begin (requested_in positions)) turns)
+lines_of course positions start turns = map line_made (all_made course start (begin (requested_in positions)) turns)

@@ -10,7 +10,7 @@ use Rattle.ps_store.specs.declared.events.Event.{Event}
 use Rattle.ps_store.specs.declared.fixed.Fixed.{Fixed}
 use Rattle.ps_store.specs.Courses.{Course, course_of}
 use Rattle.ps_store.specs.Ledgers.{ledger_of}
-use Rattle.ps_store.specs.Readings.{AreTooMany, names_of}
+use Rattle.ps_store.specs.Readings.{AreTooMany, asker_bucket_names}
 use Rattle.ps_session.specs.Sessions.{SessionState}
 use Rattle.ps_streams.specs.Runs.{IsToldIn, at_after, made_by, turn}
 use Rattle.ps_streams.specs.Turning.{IsUnderWay}
@@ -22,8 +22,8 @@ use Rattle.ps_serve.specs.declared.readers.Reader.{Reader}
 use Rattle.ps_serve.specs.declared.refusals.Refusal.{Refusal}
 use Rattle.ps_serve.specs.declared.refusals.Refusal.TheVariants as refusals
 use Rattle.ps_serve.specs.Answers.{head_text}
-use Rattle.ps_serve.specs.Readers.{Lock, GoesOn, seen}
-use Rattle.ps_serve.specs.Runs.{line_of, lines_text, list_of}
+use Rattle.ps_serve.specs.Readers.{Lock, ReaderGoesOn, seen}
+use Rattle.ps_serve.specs.Runs.{line_made, lines_text, list_of}
 use Rattle.ps_serve.specs.SharedRuns.{IsInTime, IsOwnTurn, complete_last, completes, served_after, served_before_line, with_take}
 use Rattle.ps_serve.specs.SharedStreams.{TakesAgain}
 
@@ -42,16 +42,16 @@ Puts text old new before now (Err (TooMany count)) = ⊥
 Puts text old new before now (Err Memory) = ⊥
 
 -- a text was written, and the items are those after it; or a first part, and they are those before it; or it was out of memory, and all is as before
-abbrev pub Writes : List ℕ → List Served → List Served → List Served → List Served → Option (List ℕ) → Option (List ℕ) → ℕ → ℕ → Result (Unit {0}) End → Type 0
-Writes text before_line after_line served served' old new before now (Ok done) = (served' ≡ after_line) × Gains old new text
-Writes text before_line after_line served served' old new before now (Err Answered) = ⊥
-Writes text before_line after_line served served' old new before now (Err Refused) = ⊥
-Writes text before_line after_line served served' old new before now (Err Drained) = ⊥
-Writes text before_line after_line served served' old new before now (Err (Expired moment)) = ⊥
-Writes text before_line after_line served served' old new before now (Err PeerGone) = (served' ≡ before_line) × GainsFront old new text × Rose before now
-Writes text before_line after_line served served' old new before now (Err CutRequest) = ⊥
-Writes text before_line after_line served served' old new before now (Err (TooMany count)) = ⊥
-Writes text before_line after_line served served' old new before now (Err Memory) = (served' ≡ served) × (new ≡ old)
+abbrev pub WritesText : List ℕ → List Served → List Served → List Served → List Served → Option (List ℕ) → Option (List ℕ) → ℕ → ℕ → Result (Unit {0}) End → Type 0
+WritesText text before_line after_line served served' old new before now (Ok done) = (served' ≡ after_line) × Gains old new text
+WritesText text before_line after_line served served' old new before now (Err Answered) = ⊥
+WritesText text before_line after_line served served' old new before now (Err Refused) = ⊥
+WritesText text before_line after_line served served' old new before now (Err Drained) = ⊥
+WritesText text before_line after_line served served' old new before now (Err (Expired moment)) = ⊥
+WritesText text before_line after_line served served' old new before now (Err PeerGone) = (served' ≡ before_line) × GainsFront old new text × Rose before now
+WritesText text before_line after_line served served' old new before now (Err CutRequest) = ⊥
+WritesText text before_line after_line served served' old new before now (Err (TooMany count)) = ⊥
+WritesText text before_line after_line served served' old new before now (Err Memory) = (served' ≡ served) × (new ≡ old)
 
 -- the line of a take that is not the first, or the seconds up to the token's end where it gave none
 abbrev pub take_lines : ℕ → Option Line → List Line
@@ -61,18 +61,18 @@ take_lines seconds (Some line) = line ∷ []
 -- what a take is told by
 abbrev pub WritesTake : ℕ → Served → Option Line → List Served → List Served → Option (List ℕ) → Option (List ℕ) → ℕ → ℕ → Result (Unit {0}) End → Type 0
 WritesTake seconds item line served served' old new before now result =
-    Writes (lines_text (take_lines seconds line)) (with_take true line item served) (with_take true line item served) served served' old new before now result
+    WritesText (lines_text (take_lines seconds line)) (with_take true line item served) (with_take true line item served) served served' old new before now result
 
 -- what a turn of a checkpoint that is sent is told by
 abbrev pub WritesSent : Bool → Option Line → List Served → List Served → Option (List ℕ) → Option (List ℕ) → ℕ → ℕ → Result (Unit {0}) End → Type 0
 WritesSent complete line served served' old new before now result =
-    Writes (lines_text (list_of line)) served (if complete then complete_last served else served) served served' old new before now result
+    WritesText (lines_text (list_of line)) served (if complete then complete_last served else served) served served' old new before now result
 
 -- ---- a step
 
 module _ (may_give : ℕ → Type 0) (exp limit : ℕ) (course : Course) (n : ℕ) (s : SessionState) (served served' : List Served) (old new : Option (List ℕ)) where
   abbrev pub lines_made : Option ℕ → List Line
-  lines_made expires = map line_of (made_by n (turn course n s).line expires [])
+  lines_made expires = map line_made (made_by n (turn course n s).line expires [])
 
   -- the turn was made at the place, and its lines were written
   pub record StepsOn (s' : SessionState) : Type 0 where
@@ -112,7 +112,7 @@ module _ (may_give : ℕ → Type 0) (exp limit : ℕ) (course : Course) (n : �
 -- a turn of a session whose checkpoint is sent, through a reader
 pub record HasSent (lock : Lock) (reader reader' : Reader) (asker : Asker) (s s' : SessionState) (served served' : List Served) (old new : Option (List ℕ)) (before now : ℕ)
     (result : Result (Unit {0}) End) : Type 0 where
-  pub goes_on : GoesOn lock reader reader'
+  pub goes_on : ReaderGoesOn lock reader reader'
   pub sent : (at : ℕ) → IsUnderWay (course_of (fixed_of lock).rules (seen reader) asker) (length (seen reader)) at s
       → WritesSent (completes s.phase s) (turn (course_of (fixed_of lock).rules (seen reader') asker) (length (seen reader')) s).line served served' old new before now result
   pub made : (at : ℕ) → result ≡ Ok tt → IsUnderWay (course_of (fixed_of lock).rules (seen reader) asker) (length (seen reader)) at s
@@ -122,7 +122,7 @@ pub record HasSent (lock : Lock) (reader reader' : Reader) (asker : Asker) (s s'
 -- a step of a session under way, through a reader
 pub record HasStepped (may_give : ℕ → Type 0) (exp : ℕ) (lock : Lock) (reader reader' : Reader) (asker : Asker) (s s' : SessionState) (served served' : List Served)
     (old new : Option (List ℕ)) (before now : ℕ) (result : Result (Unit {0}) End) : Type 0 where
-  pub goes_on : GoesOn lock reader reader'
+  pub goes_on : ReaderGoesOn lock reader reader'
   pub steps : (at : ℕ) → IsUnderWay (course_of (fixed_of lock).rules (seen reader) asker) (length (seen reader)) at s
       → Steps may_give exp (fixed_of lock).limits.buckets (course_of (fixed_of lock).rules (seen reader') asker) (length (seen reader')) s served served' old new
       (AreTooMany (fixed_of lock).limits (ledger_of (fixed_of lock).rules (seen reader')) asker) s' before now result
@@ -132,24 +132,24 @@ pub record HasStepped (may_give : ℕ → Type 0) (exp : ℕ) (lock : Lock) (rea
 -- ---- the first take
 
 -- the head and the first line are to be written, or why the request is refused
-abbrev pub Begins : Fixed → List Event → Asker → SessionState → SessionState → Result (Vec ℕ Global) Refusal → Type 0
-Begins fixed history asker s s' (Ok bytes) =
+abbrev pub BeginsAnswer : Fixed → List Event → Asker → SessionState → SessionState → Result (Vec ℕ Global) Refusal → Type 0
+BeginsAnswer fixed history asker s s' (Ok bytes) =
     (s' ≡ (turn (course_of fixed.rules history asker) (length history) s).session)
     × (bytes.items ≡ head_text 200 None ++ lines_text (list_of (turn (course_of fixed.rules history asker) (length history) s).line))
     × IsToldIn s.phase (course_of fixed.rules history asker) (length history)
-    × (length (names_of (ledger_of fixed.rules history) asker) ≤ fixed.limits.buckets)
+    × (length (asker_bucket_names (ledger_of fixed.rules history) asker) ≤ fixed.limits.buckets)
     × IsUnderWay (course_of fixed.rules history asker) (length history) (length history) s'
-Begins fixed history asker s s' (Err refusals.Cut) = ⊥
-Begins fixed history asker s s' (Err refusals.BadRequest) = ⊥
-Begins fixed history asker s s' (Err refusals.Unauthorized) = ⊥
-Begins fixed history asker s s' (Err refusals.NotFound) = ⊥
-Begins fixed history asker s s' (Err refusals.NotAllowed) = ⊥
-Begins fixed history asker s s' (Err refusals.Conflict) = ⊥
-Begins fixed history asker s s' (Err refusals.LengthRequired) = ⊥
-Begins fixed history asker s s' (Err refusals.TooLarge) = ⊥
-Begins fixed history asker s s' (Err refusals.TooManyBuckets) = (count : ℕ) × AreTooMany fixed.limits (ledger_of fixed.rules history) asker count
-Begins fixed history asker s s' (Err refusals.Memory) = Unit {0}
+BeginsAnswer fixed history asker s s' (Err refusals.Cut) = ⊥
+BeginsAnswer fixed history asker s s' (Err refusals.BadRequest) = ⊥
+BeginsAnswer fixed history asker s s' (Err refusals.Unauthorized) = ⊥
+BeginsAnswer fixed history asker s s' (Err refusals.NotFound) = ⊥
+BeginsAnswer fixed history asker s s' (Err refusals.NotAllowed) = ⊥
+BeginsAnswer fixed history asker s s' (Err refusals.Conflict) = ⊥
+BeginsAnswer fixed history asker s s' (Err refusals.LengthRequired) = ⊥
+BeginsAnswer fixed history asker s s' (Err refusals.TooLarge) = ⊥
+BeginsAnswer fixed history asker s s' (Err refusals.TooManyBuckets) = (count : ℕ) × AreTooMany fixed.limits (ledger_of fixed.rules history) asker count
+BeginsAnswer fixed history asker s s' (Err refusals.Memory) = Unit {0}
 
-pub record HasBegun (lock : Lock) (reader reader' : Reader) (asker : Asker) (s s' : SessionState) (result : Result (Vec ℕ Global) Refusal) : Type 0 where
-  pub goes_on : GoesOn lock reader reader'
-  pub begins : Begins (fixed_of lock) (seen reader') asker s s' result
+pub record SessionHasBegun (lock : Lock) (reader reader' : Reader) (asker : Asker) (s s' : SessionState) (result : Result (Vec ℕ Global) Refusal) : Type 0 where
+  pub goes_on : ReaderGoesOn lock reader reader'
+  pub begins : BeginsAnswer (fixed_of lock) (seen reader') asker s s' result

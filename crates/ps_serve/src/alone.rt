@@ -3,7 +3,7 @@
 ghost use Rattle.std.specs.Prelude.{◌≡◌, ◌≤◌, List, length, ◌++◌};
 ghost use Rattle.ps_store.specs.declared.events.Event.{Event as EventSeen};
 ghost use Rattle.ps_store.specs.declared.fixed.Fixed.{Fixed as FixedSeen};
-ghost use Rattle.ps_serve.specs.Alone.{Does, Answers};
+ghost use Rattle.ps_serve.specs.Alone.{Does, AnswersRequest};
 ghost use Rattle.ps_serve.specs.Requests.{AreFilled};
 ghost use Rattle.ps_store.specs.Stores.{StoreStandsFor};
 
@@ -73,7 +73,7 @@ pub fn answer_alone<S: Source, K: Sink, C: Clock>(
     requires { (fixed : FixedSeen) × (history : List EventSeen) × StoreStandsFor fixed store.old history }
     // What the bytes of the request ask for, and what was done and written then.
     ensures answers { (fixed : FixedSeen) (history : List EventSeen) → StoreStandsFor fixed store.old history
-        → Answers (C.may_give clock.now) site.now.keys fixed history (S.input from.old) (S.input from.new) (S.faults from.old) (S.faults from.new)
+        → AnswersRequest (C.may_give clock.now) site.now.keys fixed history (S.input from.old) (S.input from.new) (S.faults from.old) (S.faults from.new)
         store.old store.new (K.taken to.old) (K.taken to.new) (K.faults to.old) (K.faults to.new) result.0 result.1 }
     // The store after it stands for what it stood for, and at most one event more.
     ensures serves { (fixed : FixedSeen) (history : List EventSeen) → StoreStandsFor fixed store.old history

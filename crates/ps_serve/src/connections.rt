@@ -27,7 +27,7 @@ use ps_io::{Clock, Sink, Source};
 use ps_lock::{Seat, StoreLock};
 use ps_rows::Change;
 use ps_session::StreamRequest;
-use ps_store::{FeedFault, places_are_fronts};
+use ps_store::FeedFault;
 use ps_workers::{SharedStore, number_in_turn, upload_in_turn};
 use ps_write_cp::NumberFault;
 use std::alloc::Global;
@@ -93,7 +93,7 @@ fn number_through<R: Wait, K: Sink, B: Bell>(
     ensures faults { K.faults to.old ≤ K.faults to.new }
     ensures number { K.number to.new ≡ K.number to.old }
 {
-    places_are_fronts();
+    ps_store::laws::places_are_fronts();
     let (seat, made) = number_in_turn(desk.rt, desk.alloc, desk.lock, seat, user, client);
     if made.is_ok() {
         bell.ring();
@@ -119,7 +119,7 @@ fn upload_through<R: Wait, K: Sink, B: Bell>(
     ensures faults { K.faults to.old ≤ K.faults to.new }
     ensures number { K.number to.new ≡ K.number to.old }
 {
-    places_are_fronts();
+    ps_store::laws::places_are_fronts();
     let (seat, fed) = upload_in_turn(desk.rt, desk.alloc, desk.lock, seat, changes);
     if fed.is_ok() {
         bell.ring();

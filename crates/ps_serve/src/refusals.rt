@@ -1,5 +1,5 @@
 ghost use Rattle.std.specs.Prelude.{◌≡◌};
-ghost use Rattle.ps_serve.specs.Refusals.{status_of};
+ghost use Rattle.ps_serve.specs.Refusals.{refusal_status};
 
 /// Why a request is not answered with what it asks for.
 #[derive(Clone, Copy, PartialEq, Eq)]
@@ -29,7 +29,7 @@ pub enum Refusal {
 impl Refusal {
     /// The status of the answer, 0 where there is none.
     pub fn status(self) -> u16
-        ensures { result ≡ status_of self }
+        ensures { result ≡ refusal_status self }
     {
         match self {
             Refusal::Cut => 0,

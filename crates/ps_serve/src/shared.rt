@@ -12,11 +12,11 @@ ghost use Rattle.ps_session.specs.Sessions.{IsDrained, begin, requested_in};
 ghost use Rattle.ps_streams.specs.Turning.{IsUnderWay};
 ghost use Rattle.ps_workers.specs.Sharing.{fixed_of};
 ghost use Rattle.ps_serve.specs.Answers.{head_text};
-ghost use Rattle.ps_serve.specs.Readers.{IsAtEnd, GoesOn, seen};
+ghost use Rattle.ps_serve.specs.Readers.{IsAtEnd, ReaderGoesOn, seen};
 ghost use Rattle.ps_serve.specs.Runs.{lines_text, list_of};
 ghost use Rattle.ps_serve.specs.SharedAnswers.{StreamsAt};
 ghost use Rattle.ps_serve.specs.SharedStreams.{EndsSo, HasStreamed};
-ghost use Rattle.ps_serve.specs.Steps.{HasBegun};
+ghost use Rattle.ps_serve.specs.Steps.{SessionHasBegun};
 
 use crate::ends::End;
 use crate::outcomes::{Outcome, Served};
@@ -32,8 +32,7 @@ use ps_io::{Clock, Sink};
 use ps_lines::{Line, write_line};
 use ps_lock::Seat;
 use ps_session::{Action, Session, StreamRequest};
-use ps_store::{TakeFault, courses_are_lawful, places_are_fronts};
-use ps_streams::{runs_go_on, sessions_keep_clients_right};
+use ps_store::TakeFault;
 use ps_workers::SharedStore;
 use std::alloc::Global;
 use std::sync::Wait;
@@ -67,7 +66,7 @@ pub fn stream_on<R: Wait, K: Sink, C: Clock, B: Bell>(
     requires at_end { IsAtEnd desk.now.lock.now reader }
     requires begun { (state_of stream.old.session).phase ≢ Start }
     requires way { (at : ℕ) × IsUnderWay (course_of (fixed_of desk.now.lock.now).rules (seen reader) stream.old.session.asker) (length (seen reader)) at (state_of stream.old.session) }
-    ensures goes_on { GoesOn desk.now.lock.now reader result.0 }
+    ensures goes_on { ReaderGoesOn desk.now.lock.now reader result.0 }
     ensures ends { (positions : List KnownSeen) (low : ℕ) (front : List ℕ) (first : Option (List ℕ)) (before : ℕ) → before ≤ K.faults to.old
         → HasStreamed (C.may_give terms.now.clock.now) terms.now.exp (fixed_of desk.now.lock.now) stream.old.session.asker positions low
         (seen reader) front first (K.taken to.old) (state_of stream.old.session) stream.old.served.items
@@ -76,8 +75,8 @@ pub fn stream_on<R: Wait, K: Sink, C: Clock, B: Bell>(
     ensures faults { K.faults to.old ≤ K.faults to.new }
     ensures number { K.number to.new ≡ K.number to.old }
 {
-    runs_go_on();
-    places_are_fronts();
+    ps_streams::laws::runs_go_on();
+    ps_store::laws::places_are_fronts();
     let mut here = reader;
     'turns: for _ in desk.rt.forever() {
         if is_over(terms, &stream.session) {
@@ -115,7 +114,7 @@ fn take_first<R: Wait>(
 ) -> (Reader, Result<Vec<u8>, Refusal>)
     requires start { (state_of session.old).phase ≡ Start }
     requires at_end { IsAtEnd desk.now.lock.now reader }
-    ensures begins { HasBegun desk.now.lock.now reader result.0 session.old.asker (state_of session.old) (state_of session.new) result.1 }
+    ensures begins { SessionHasBegun desk.now.lock.now reader result.0 session.old.asker (state_of session.old) (state_of session.new) result.1 }
     ensures asker { session.new.asker ≡ session.old.asker }
 {
     let (reader, turned) = turn_through(desk, reader, session);
@@ -150,7 +149,7 @@ pub fn stream_from<R: Wait, K: Sink, C: Clock, B: Bell>(
     requires start { (state_of stream.old.session).phase ≡ Start }
     requires none { stream.old.served.items ≡ [] }
     requires at_end { IsAtEnd desk.now.lock.now reader }
-    ensures goes_on { GoesOn desk.now.lock.now reader result.0 }
+    ensures goes_on { ReaderGoesOn desk.now.lock.now reader result.0 }
     ensures streams { (positions : List KnownSeen) (low : ℕ) → low ≤ length (seen reader) → state_of stream.old.session ≡ begin (requested_in positions)
         → StreamsAt (fixed_of desk.now.lock.now) low (seen result.0) (C.may_give terms.now.clock.now) terms.now.until_drained
         stream.old.session.asker positions terms.now.exp (K.taken to.old) (K.taken to.new) (K.faults to.old) (K.faults to.new)
@@ -158,9 +157,9 @@ pub fn stream_from<R: Wait, K: Sink, C: Clock, B: Bell>(
     ensures faults { K.faults to.old ≤ K.faults to.new }
     ensures number { K.number to.new ≡ K.number to.old }
 {
-    sessions_keep_clients_right();
-    courses_are_lawful();
-    places_are_fronts();
+    ps_streams::laws::sessions_keep_clients_right();
+    ps_store::laws::courses_are_lawful();
+    ps_store::laws::places_are_fronts();
     stream.heard = bell.heard();
     let (reader, first) = take_first(desk, reader, &mut stream.session);
     let bytes = match first {

@@ -24,7 +24,7 @@ use ps_data::Memory;
 use ps_io::{Clock, Sink};
 use ps_lines::{Line, write_line};
 use ps_session::{Action, Session};
-use ps_store::{TakeFault, places_are_fronts};
+use ps_store::TakeFault;
 use ps_streams::TurnOutcome;
 use std::alloc::Global;
 use std::sync::Wait;
@@ -206,7 +206,7 @@ fn take_again<R: Wait, K: Sink, C: Clock>(
     ensures faults { K.faults to.old ≤ K.faults to.new }
     ensures number { K.number to.new ≡ K.number to.old }
 {
-    places_are_fronts();
+    ps_store::laws::places_are_fronts();
     let moment = terms.clock.now();
     if moment >= terms.exp {
         return (reader, Err(End::Expired { moment }));

@@ -12,7 +12,7 @@ ghost use Rattle.ps_session.specs.declared.phases.Phase.TheVariants.{Start, Down
 ghost use Rattle.ps_session.specs.Kept.{state_of};
 ghost use Rattle.ps_session.specs.Sessions.{next_action, begin, requested_in};
 ghost use Rattle.ps_serve.specs.Answers.{head_text};
-ghost use Rattle.ps_serve.specs.Runs.{IsSending, Sends, SendsInTime, SendsSo, TurnsTo, Takes, Begins, TakesOnce, Ends, StreamsOn, Streams};
+ghost use Rattle.ps_serve.specs.Runs.{IsSending, Sends, SendsInTime, SendsSo, TurnsTo, TakesFirst, BeginsStream, TakesOnce, EndsStream, StreamsOn, Streams};
 ghost use Rattle.ps_serve.specs.Turning.{IsHere, IsStreamingFor, turn_for};
 
 use crate::ends::End;
@@ -22,8 +22,8 @@ use ps_data::Memory;
 use ps_io::{Clock, Sink};
 use ps_lines::{Line, write_line};
 use ps_session::{Action, Session, StreamRequest};
-use ps_store::{Store, TakeFault, courses_are_lawful, places_are_fronts};
-use ps_streams::{calls_make_turns, runs_go_on, take_turn_of};
+use ps_store::{Store, TakeFault};
+use ps_streams::take_turn_of;
 use std::alloc::Global;
 
 // Writes the line of a turn, if it gives one.
@@ -62,11 +62,11 @@ fn take(alloc: Global, store: &Store, session: &mut Session) -> Result<Option<Li
     requires start { (state_of session.old).phase ≡ Start }
     requires serves { (fixed : FixedSeen) × (history : List EventSeen) × StoreStandsFor fixed store.now history }
     ensures takes { (fixed : FixedSeen) (history : List EventSeen) → StoreStandsFor fixed store.now history
-        → Takes fixed history session.old.asker (turn_for fixed history session.old) (state_of session.new) result }
+        → TakesFirst fixed history session.old.asker (turn_for fixed history session.old) (state_of session.new) result }
     ensures writable { IfOk result (λ line. IfSome line IsWritable) }
     ensures asker { session.new.asker ≡ session.old.asker }
 {
-    places_are_fronts();
+    ps_store::laws::places_are_fronts();
     turn(alloc, store, session)
 }
 
@@ -155,7 +155,7 @@ fn make_turn<K: Sink, C: Clock>(
 
 // How a stream ends that has completed a checkpoint.
 fn ending(session: &Session) -> End
-    ensures ends { Ends (state_of session.now) result }
+    ensures ends { EndsStream (state_of session.now) result }
     ensures once { TakesOnce result }
 {
     if session.drained() {
@@ -183,9 +183,9 @@ fn go_on<K: Sink, C: Clock>(
     ensures faults { K.faults to.old ≤ K.faults to.new }
     ensures number { K.number to.new ≡ K.number to.old }
 {
-    runs_go_on();
-    calls_make_turns();
-    courses_are_lawful();
+    ps_streams::laws::runs_go_on();
+    ps_streams::laws::calls_make_turns();
+    ps_store::laws::courses_are_lawful();
     'turns: loop {
         match session.next_action() {
             Action::Wait => return ending(session),
@@ -202,7 +202,7 @@ fn first_line(alloc: Global, store: &Store, session: &mut Session) -> Result<Vec
     requires start { (state_of session.old).phase ≡ Start }
     requires serves { (fixed : FixedSeen) × (history : List EventSeen) × StoreStandsFor fixed store.now history }
     ensures begins { (fixed : FixedSeen) (history : List EventSeen) → StoreStandsFor fixed store.now history
-        → Begins fixed history session.old.asker (turn_for fixed history session.old) (state_of session.new) result }
+        → BeginsStream fixed history session.old.asker (turn_for fixed history session.old) (state_of session.new) result }
     ensures asker { session.new.asker ≡ session.old.asker }
 {
     let line = match take(alloc, store, session) {
@@ -245,9 +245,9 @@ fn stream_from<K: Sink, C: Clock>(
     ensures faults { K.faults to.old ≤ K.faults to.new }
     ensures number { K.number to.new ≡ K.number to.old }
 {
-    runs_go_on();
-    calls_make_turns();
-    places_are_fronts();
+    ps_streams::laws::runs_go_on();
+    ps_streams::laws::calls_make_turns();
+    ps_store::laws::places_are_fronts();
     let first = match first_line(alloc, store, session) {
         Ok(first) => first,
         Err(refusal) => return refuse(alloc, refusal, to),

@@ -8,7 +8,7 @@ ghost use Rattle.ps_store.specs.Courses.{course_of};
 ghost use Rattle.ps_session.specs.Kept.{state_of};
 ghost use Rattle.ps_streams.specs.Turning.{IsUnderWay, IsWritableOutcome};
 ghost use Rattle.ps_workers.specs.Sharing.{fixed_of};
-ghost use Rattle.ps_serve.specs.Readers.{Lock, IsAtEnd, HasTurnedAt, StandsAt, seen, own};
+ghost use Rattle.ps_serve.specs.Readers.{Lock, IsAtEnd, HasTurnedAt, ReaderStandsAt, seen, own};
 
 use crate::readers::Reader;
 use ps_bucket_log::{Batch, Taken};
@@ -55,9 +55,9 @@ struct LockReadings<'a, R, N> {
 }
 
 impl<'a, R: Wait, N: Named> Readings for LockReadings<'a, R, N> {
-    ghost use Rattle.ps_serve.specs.Readers.{StandsAt};
+    ghost use Rattle.ps_serve.specs.Readers.{ReaderStandsAt};
 
-    ghost stands = { λ readings fixed history. StandsAt N.lock N.entries readings.desk.now.lock.now readings.reader fixed history };
+    ghost stands = { λ readings fixed history. ReaderStandsAt N.lock N.entries readings.desk.now.lock.now readings.reader fixed history };
 
     ghost may_come = { λ _ _. Unit {0} };
 

@@ -4,7 +4,7 @@ ghost use Rattle.std.specs.Prelude.{◌≡◌, ◌≤◌, ◌++◌, IfOk, IsTrue
 ghost use Rattle.std.specs.Fmt.{decimal};
 ghost use Rattle.ps_http.specs.Answers.{is_status};
 ghost use Rattle.ps_serve.specs.declared.ends.End.TheVariants as ends;
-ghost use Rattle.ps_serve.specs.Answers.{IsWritten, IsRefused, Refuses, refusal_text, head_text, body_answer, number_text as number_told, position_text as position_told};
+ghost use Rattle.ps_serve.specs.Answers.{IsWritten, RequestIsRefused, Refuses, refusal_text, head_text, body_answer, number_text as number_told, position_text as position_told};
 
 use crate::ends::End;
 use crate::refusals::Refusal;
@@ -25,7 +25,7 @@ pub fn head(alloc: Global, status: u16, length: Option<u64>) -> Result<Vec<u8>, 
 // Writes the head of a refusal. Where there is no memory for it, nothing is written.
 fn tell<K: Sink>(alloc: Global, status: u16, to: &mut K) -> (u16, End)
     requires { IsTrue (is_status status) }
-    ensures refused { IsRefused status (K.taken to.old) (K.taken to.new) (K.faults to.old) (K.faults to.new) result.0 result.1 }
+    ensures refused { RequestIsRefused status (K.taken to.old) (K.taken to.new) (K.faults to.old) (K.faults to.new) result.0 result.1 }
     ensures faults { K.faults to.old ≤ K.faults to.new }
     ensures number { K.number to.new ≡ K.number to.old }
 {

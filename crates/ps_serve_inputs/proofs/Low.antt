@@ -5,7 +5,7 @@ use Rattle.std.proofs.lemmas.List.Elements.{All-nil, All-push}
 use Rattle.ps_rows.specs.declared.changes.Transaction.{Transaction}
 use Rattle.ps_changes.specs.declared.faults.ChangeFault.{ChangeFault}
 use Rattle.ps_changes.specs.Laws.{ReadsLines}
-use Rattle.ps_changes.specs.Lines.{line_of}
+use Rattle.ps_changes.specs.Lines.{transaction_of_line}
 use Rattle.ps_file_lines.specs.Lines.{lines_of, is_blank}
 use Rattle.ps_store.specs.Laws.{last_position}
 use Rattle.ps_store.specs.Limits.{greatest}
@@ -36,10 +36,10 @@ module _ (law : ReadsLines) where
   low_from : (done : List Transaction) (number : ℕ) (lines : List (List ℕ)) (ts : List Transaction) → All IsLow done → rising_from done number lines ≡ Ok ts → All IsLow ts
   low_from done number [] ts low h = let e : done ≡ ts = cc in subst (All IsLow) e low
   low_from done number (line ∷ lines) ts low h =
-      by_line (is_blank line) (rising_from done (number + 1) lines) (rising number (last_position 0 done) (line_of line)) (λ t. rising_from (done ++ t ∷ []) (number + 1) lines) ts (All IsLow ts)
+      by_line (is_blank line) (rising_from done (number + 1) lines) (rising number (last_position 0 done) (transaction_of_line line)) (λ t. rising_from (done ++ t ∷ []) (number + 1) lines) ts (All IsLow ts)
       (λ same. low_from done (number + 1) lines ts low same)
       (λ t is more. low_from (done ++ t ∷ []) (number + 1) lines ts
-      (All-push IsLow done t low ((law line t).0 (line_read number (last_position 0 done) (line_of line) t is)).is.within) more) h
+      (All-push IsLow done t low ((law line t).0 (line_read number (last_position 0 done) (transaction_of_line line) t is)).is.within) more) h
 
   -- no position is past the greatest
   pub read_low : (bytes : List ℕ) (ts : List Transaction) → rising_transactions_of bytes ≡ Ok ts → All IsLow ts

@@ -11,7 +11,7 @@ use Rattle.ps_rows.specs.declared.changes.Transaction.{Transaction}
 use Rattle.ps_definitions.specs.RuleSets.{RuleSet}
 use Rattle.ps_token.specs.declared.key_lists.Key.{Key}
 use Rattle.ps_serve_words.specs.declared.words.ServeWords.{ServeWords}
-use Rattle.ps_serve_inputs.specs.Inputs.{Means, ReadsNext, StopsNext, StopsInputs}
+use Rattle.ps_serve_inputs.specs.Inputs.{FileMeans, ReadsNext, StopsNext, StopsInputs}
 
 -- a count that rose later rose since
 pub loads_since : {X : Type 0} (held : Option Contents) (name : List ℕ) (limit before mid now : ℕ) (Finds : X → List ℕ → Type 0) (Refuses : Fault → List ℕ → Type 0) (fault : Fault)
@@ -30,8 +30,8 @@ loads_since held name limit before mid now Finds Refuses (Script place cause) le
 loads_since held name limit before mid now Finds Refuses Memory le h = h
 
 -- what is said of files that have not changed is said of them as they were
-means_of : {X : Type 0} (held mid : Option Contents) (name : List ℕ) (limit : ℕ) (Finds : X → List ℕ → Type 0) (x : X) → mid ≡ held → Means mid name limit Finds x → Means held name limit Finds x
-means_of held mid name limit Finds x same read = subst (λ (h : Option Contents). Means h name limit Finds x) same read
+means_of : {X : Type 0} (held mid : Option Contents) (name : List ℕ) (limit : ℕ) (Finds : X → List ℕ → Type 0) (x : X) → mid ≡ held → FileMeans mid name limit Finds x → FileMeans held name limit Finds x
+means_of held mid name limit Finds x same read = subst (λ (h : Option Contents). FileMeans h name limit Finds x) same read
 
 loads_of : {X : Type 0} (held mid : Option Contents) (name : List ℕ) (limit before one now : ℕ) (Finds : X → List ℕ → Type 0) (Refuses : Fault → List ℕ → Type 0) (fault : Fault)
     → mid ≡ held → before ≤ one → Loads mid name limit one now Finds Refuses (Err fault) → Loads held name limit before now Finds Refuses (Err fault)
@@ -42,7 +42,7 @@ next_of : (held mid : Option Contents) (name : Option (List ℕ)) (next : Option
 next_of held mid name next same read = subst (λ (h : Option Contents). ReadsNext h name next) same read
 
 -- each file stops what those before it did not
-module _ (held : Option Contents) (words : ServeWords) (before : ℕ) (rules : RuleSet) (rules_read : Means held words.rules rules_limit FindsRules rules) (fault : Fault) where
+module _ (held : Option Contents) (words : ServeWords) (before : ℕ) (rules : RuleSet) (rules_read : FileMeans held words.rules rules_limit FindsRules rules) (fault : Fault) where
   pub stops_at_next : (mid : Option Contents) (one now : ℕ) → mid ≡ held → before ≤ one → StopsNext mid words.next one now fault → StopsInputs held words before now fault
   stops_at_next mid one now same le stops = inr (inl (record {
     rules = rules;
@@ -61,7 +61,7 @@ module _ (held : Option Contents) (words : ServeWords) (before : ℕ) (rules : R
       stops = loads_of held late words.keys file_limit before two now FindsKeys IsKeysFault fault same le stops;
     })))
 
-    pub stops_at_changes : (late last : Option Contents) (three now : ℕ) (keys : List Key) → late ≡ held → Means late words.keys file_limit FindsKeys keys → last ≡ held → before ≤ three
+    pub stops_at_changes : (late last : Option Contents) (three now : ℕ) (keys : List Key) → late ≡ held → FileMeans late words.keys file_limit FindsKeys keys → last ≡ held → before ≤ three
         → Loads {X = Vec Transaction Global} last words.changes file_limit three now FindsRising IsRisingFault (Err fault) → StopsInputs held words before now fault
     stops_at_changes late last three now keys late_is keys_read same le stops = inr (inr (inr (record {
       rules = rules;

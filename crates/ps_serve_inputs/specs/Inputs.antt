@@ -13,15 +13,15 @@ use Rattle.ps_serve_words.specs.declared.words.ServeWords.{ServeWords}
 use Rattle.ps_serve_inputs.specs.declared.inputs.Inputs.{Inputs}
 
 -- in the bytes of a file within a limit this is found
-abbrev pub Means : {X : Type 0} → Option Contents → List ℕ → ℕ → (X → List ℕ → Type 0) → X → Type 0
-Means held name limit Finds x = (bytes : List ℕ) × HoldsWithin held name limit bytes × Finds x bytes
+abbrev pub FileMeans : {X : Type 0} → Option Contents → List ℕ → ℕ → (X → List ℕ → Type 0) → X → Type 0
+FileMeans held name limit Finds x = (bytes : List ℕ) × HoldsWithin held name limit bytes × Finds x bytes
 
 -- the file of the next rules, where one is named, is read as those rules
 abbrev pub ReadsNext : Option Contents → Option (List ℕ) → Option RuleSet → Type 0
 ReadsNext held None None = Unit {0}
 ReadsNext held None (Some rules) = ⊥
 ReadsNext held (Some name) None = ⊥
-ReadsNext held (Some name) (Some rules) = Means held name rules_limit FindsRules rules
+ReadsNext held (Some name) (Some rules) = FileMeans held name rules_limit FindsRules rules
 
 -- one is named, and that is why it is not read
 abbrev pub StopsNext : Option Contents → Option (List ℕ) → ℕ → ℕ → Fault → Type 0
@@ -33,10 +33,10 @@ LoadsNext held name before now (Err fault) = StopsNext held name before now faul
 
 -- the files are read as these inputs
 pub record AreInputs (held : Option Contents) (words : ServeWords) (inputs : Inputs) : Type 0 where
-  pub rules : Means held words.rules rules_limit FindsRules inputs.rules
+  pub rules : FileMeans held words.rules rules_limit FindsRules inputs.rules
   pub next : ReadsNext held words.next inputs.next
-  pub keys : Means held words.keys file_limit FindsKeys inputs.keys
-  pub changes : Means held words.changes file_limit FindsRising inputs.transactions
+  pub keys : FileMeans held words.keys file_limit FindsKeys inputs.keys
+  pub changes : FileMeans held words.changes file_limit FindsRising inputs.transactions
 
 -- the rules file, that of the next rules, the key file or the change file is the first that is not read, and that is why
 abbrev pub StopsAtRules : Option Contents → ServeWords → ℕ → ℕ → Fault → Type 0
@@ -44,23 +44,23 @@ StopsAtRules held words before now fault = Loads {X = RuleSet} held words.rules 
 
 pub record StopsAtNext (held : Option Contents) (words : ServeWords) (before now : ℕ) (fault : Fault) : Type 0 where
   pub rules : RuleSet
-  pub rules_read : Means held words.rules rules_limit FindsRules rules
+  pub rules_read : FileMeans held words.rules rules_limit FindsRules rules
   pub stops : StopsNext held words.next before now fault
 
 pub record StopsAtKeys (held : Option Contents) (words : ServeWords) (before now : ℕ) (fault : Fault) : Type 0 where
   pub rules : RuleSet
-  pub rules_read : Means held words.rules rules_limit FindsRules rules
+  pub rules_read : FileMeans held words.rules rules_limit FindsRules rules
   pub next : Option RuleSet
   pub next_read : ReadsNext held words.next next
   pub stops : Loads {X = List Key} held words.keys file_limit before now FindsKeys IsKeysFault (Err fault)
 
 pub record StopsAtChanges (held : Option Contents) (words : ServeWords) (before now : ℕ) (fault : Fault) : Type 0 where
   pub rules : RuleSet
-  pub rules_read : Means held words.rules rules_limit FindsRules rules
+  pub rules_read : FileMeans held words.rules rules_limit FindsRules rules
   pub next : Option RuleSet
   pub next_read : ReadsNext held words.next next
   pub keys : List Key
-  pub keys_read : Means held words.keys file_limit FindsKeys keys
+  pub keys_read : FileMeans held words.keys file_limit FindsKeys keys
   pub stops : Loads {X = Vec Transaction Global} held words.changes file_limit before now FindsRising IsRisingFault (Err fault)
 
 abbrev pub StopsInputs : Option Contents → ServeWords → ℕ → ℕ → Fault → Type 0

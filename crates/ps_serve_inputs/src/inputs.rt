@@ -7,7 +7,6 @@ ghost use Rattle.ps_store.specs.Limits.{greatest};
 ghost use Rattle.ps_files.specs.Loading.{MissesNamed};
 ghost use Rattle.ps_serve_inputs.specs.Inputs.{LoadsInputs, LoadsNext};
 
-use ps_changes::lines_are_spelled;
 use ps_data::Text;
 use ps_definitions::Rules;
 use ps_files::{Fault, load_keys, load_next, load_rising, load_rules};
@@ -63,7 +62,7 @@ pub fn load_inputs<'a, F: Files>(
     ensures held { F.held files.new ≡ F.held files.old }
     ensures faults { F.faults files.old ≤ F.faults files.new }
 {
-    lines_are_spelled();
+    ps_changes::laws::lines_are_spelled();
     let rules = load_rules(alloc, files, &words.rules)?;
     let next = load_next_if(alloc, files, &words.next)?;
     let keys = load_keys(alloc, files, &words.keys)?;

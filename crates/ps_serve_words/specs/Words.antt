@@ -13,15 +13,15 @@ use Rattle.ps_serve_words.specs.declared.faults.WordsFault.TheVariants.{Refused,
 use Rattle.ps_serve_words.specs.declared.words.ServeWords.{ServeWords}
 
 -- a number in decimal digits, as clap reads it
-abbrev pub number_of : List ℕ → ℕ
-number_of text = digits_value 10 (without_leading_plus text)
+abbrev pub decimal_word : List ℕ → ℕ
+decimal_word text = digits_value 10 (without_leading_plus text)
 
 -- the text that is given under a name; the number; whether the flag is
-abbrev pub text_at : List ℕ → List Row → Option (List ℕ)
-text_at name rows = first_of name rows
+abbrev pub word_text : List ℕ → List Row → Option (List ℕ)
+word_text name rows = first_of name rows
 
-abbrev pub number_at : List ℕ → List Row → Option ℕ
-number_at name rows = option_map number_of (one_of name rows)
+abbrev pub number_word : List ℕ → List Row → Option ℕ
+number_word name rows = option_map decimal_word (one_of name rows)
 
 abbrev pub flag_at : List ℕ → List Row → Bool
 flag_at name rows = option_map_or (λ text. bytes_eq text (codes "true")) (first_of name rows) false
@@ -36,16 +36,16 @@ IsCount n = n ≤ 9223372036854775807
 
 -- what the matches of `serve` say
 pub record AreSaidBy (rows : List Row) (words : ServeWords) : Type 0 where
-  pub rules : text_at (codes "rules") rows ≡ Some words.rules
-  pub changes : text_at (codes "changes") rows ≡ Some words.changes
-  pub keys : text_at (codes "keys") rows ≡ Some words.keys
-  pub listen : text_at (codes "listen") rows ≡ Some words.listen
-  pub connections : number_at (codes "connections") rows ≡ words.connections
+  pub rules : word_text (codes "rules") rows ≡ Some words.rules
+  pub changes : word_text (codes "changes") rows ≡ Some words.changes
+  pub keys : word_text (codes "keys") rows ≡ Some words.keys
+  pub listen : word_text (codes "listen") rows ≡ Some words.listen
+  pub connections : number_word (codes "connections") rows ≡ words.connections
   pub until_drained : flag_at (codes "until-drained") rows ≡ words.until_drained
-  pub batch : number_at (codes "batch") rows ≡ Some words.batch
-  pub compact_at : number_at (codes "compact-at") rows ≡ Some words.compact_at
-  pub next : text_at (codes "next") rows ≡ words.next
-  pub next_after : number_at (codes "next-after") rows ≡ Some words.next_after
+  pub batch : number_word (codes "batch") rows ≡ Some words.batch
+  pub compact_at : number_word (codes "compact-at") rows ≡ Some words.compact_at
+  pub next : word_text (codes "next") rows ≡ words.next
+  pub next_after : number_word (codes "next-after") rows ≡ Some words.next_after
 
 -- its numbers are from 1 to 1,000,000, and that of transactions is at most 9223372036854775807
 pub record AreInRange (words : ServeWords) : Type 0 where

@@ -3,7 +3,7 @@
 ghost use Rattle.std.specs.Prelude.{◌≡◌, Some, IfOk, IfSome};
 ghost use Rattle.clap.specs.Matches.{found_of};
 ghost use Rattle.clap.specs.Walk.{rows_of};
-ghost use Rattle.ps_serve_words.specs.Words.{text_at, number_at, flag_at, IsInMillion, IsCount, AreSaidBy, AreInRange};
+ghost use Rattle.ps_serve_words.specs.Words.{word_text, number_word, flag_at, IsInMillion, IsCount, AreSaidBy, AreInRange};
 
 use crate::words::ServeWords;
 use clap::ArgMatches;
@@ -12,7 +12,7 @@ use std::alloc::Global;
 
 // The text under a name that has to be given.
 fn text_under(alloc: Global, matches: &ArgMatches<'_>, name: &str) -> Result<Text, Memory>
-    ensures { IfOk result (λ text. text_at name.now (rows_of (found_of matches.now)) ≡ Some text) }
+    ensures { IfOk result (λ text. word_text name.now (rows_of (found_of matches.now)) ≡ Some text) }
 {
     match matches.get_str(name) {
         Some(text) => Text::from_str(alloc, text),
@@ -27,7 +27,7 @@ fn some_text_under(
     matches: &ArgMatches<'_>,
     name: &str,
 ) -> Result<Option<Text>, Memory>
-    ensures { IfOk result (λ text. text_at name.now (rows_of (found_of matches.now)) ≡ text) }
+    ensures { IfOk result (λ text. word_text name.now (rows_of (found_of matches.now)) ≡ text) }
 {
     match matches.get_str(name) {
         Some(text) => Ok(Some(Text::from_str(alloc, text)?)),
@@ -37,7 +37,7 @@ fn some_text_under(
 
 // The number under a name, if there is one.
 fn number_under(matches: &ArgMatches<'_>, name: &str) -> Result<Option<u32>, Memory>
-    ensures number { IfOk result (λ number. number_at name.now (rows_of (found_of matches.now)) ≡ number) }
+    ensures number { IfOk result (λ number. number_word name.now (rows_of (found_of matches.now)) ≡ number) }
     ensures range { IfOk result (λ number. IfSome number IsInMillion) }
 {
     if let None = matches.get_str(name) {
@@ -52,7 +52,7 @@ fn number_under(matches: &ArgMatches<'_>, name: &str) -> Result<Option<u32>, Mem
 
 // The number under a name that has one, given or not.
 fn sure_number_under(matches: &ArgMatches<'_>, name: &str) -> Result<u32, Memory>
-    ensures number { IfOk result (λ number. number_at name.now (rows_of (found_of matches.now)) ≡ Some number) }
+    ensures number { IfOk result (λ number. number_word name.now (rows_of (found_of matches.now)) ≡ Some number) }
     ensures range { IfOk result IsInMillion }
 {
     match number_under(matches, name)? {
@@ -64,7 +64,7 @@ fn sure_number_under(matches: &ArgMatches<'_>, name: &str) -> Result<u32, Memory
 
 // The number of transactions under a name that has one, given or not.
 fn count_under(matches: &ArgMatches<'_>, name: &str) -> Result<u64, Memory>
-    ensures number { IfOk result (λ number. number_at name.now (rows_of (found_of matches.now)) ≡ Some number) }
+    ensures number { IfOk result (λ number. number_word name.now (rows_of (found_of matches.now)) ≡ Some number) }
     ensures range { IfOk result IsCount }
 {
     match matches.get_one::<u64>(name) {

@@ -9,7 +9,7 @@ use Rattle.ps_store.specs.LedgerLaws.{LedgersTellFeeds}
 use Rattle.ps_store.specs.Ledgers.{ledger_of}
 use Rattle.ps_store.specs.Originals.{ops_from, timed}
 use Rattle.ps_store.specs.declared.entered.Entered.{Entered}
-use Rattle.ps_store.specs.Totals.{names_of, ops_of}
+use Rattle.ps_store.specs.Totals.{buckets_entered, entered_ops}
 use Rattle.ps_serving.specs.Totals.{TotalsAreOne}
 
 abbrev counted : List Transaction → ℕ → List Entered → Totals
@@ -17,8 +17,8 @@ counted fed written entered = record {
   transactions = length fed;
   changes = written;
   operations = length entered;
-  buckets = length (names_of entered);
-  sum = record { 0 = sum_of (ops_of entered) };
+  buckets = length (buckets_entered entered);
+  sum = record { 0 = sum_of (entered_ops entered) };
 }
 
 pub all_totals : LedgersTellFeeds → LedgersTellHistories → LedgersTellOneGeneration → TotalsAreOne

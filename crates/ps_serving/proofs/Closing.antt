@@ -9,7 +9,7 @@ use Rattle.ps_store.specs.declared.events.Event.TheVariants.{Feed, Close, Write,
 use Rattle.ps_store.specs.Generations.{Coming, queue_in}
 use Rattle.ps_store.specs.Histories.{LedgersTellHistories, written_in}
 use Rattle.ps_store.specs.LedgerLaws.{LedgersTellFeeds, fed_in}
-use Rattle.ps_store.specs.Ledgers.{Ledger, fresh, ledger_after, ledger_of, IsLegal, IsLegalFrom, unwritten, write_next, build_next, build_with, switch_to, drop_coming}
+use Rattle.ps_store.specs.Ledgers.{Ledger, fresh_ledger, ledger_after, ledger_of, IsLegal, IsLegalFrom, unwritten, write_next, build_next, build_with, switch_to, drop_coming}
 use Rattle.ps_store.specs.Originals.{Timed, timed, timed_from}
 use Rattle.ps_serving.specs.Openings.{feeds_of, opening}
 
@@ -117,7 +117,7 @@ fed_between start seen history (more, is) (back, so) same =
 pub fed_closed : (rules : RuleSet) (front history : List Event) → IsPrefix front history → IsLegal rules history → (ledger_of rules front).closed ≡ true → fed_in history ≡ fed_in front
 fed_closed rules front history (back, is) legal closed =
     let both : IsLegal rules (front ++ back) = subst (IsLegal rules) (sym is) legal in
-    let nothing : fed_in back ≡ [] = no_feeds (ledger_of rules front) back closed (legal_back (fresh rules) front back both) in
+    let nothing : fed_in back ≡ [] = no_feeds (ledger_of rules front) back closed (legal_back (fresh_ledger rules) front back both) in
     ap fed_in (sym is) ∙ (fed_both front back ∙ (ap (λ us. fed_in front ++ us) nothing ∙ append-nil (fed_in front)))
 
 pub timed_both : (ts us : List Transaction) → timed (ts ++ us) ≡ timed ts ++ timed us
@@ -133,7 +133,7 @@ module _ (tells : LedgersTellHistories) (feeds : LedgersTellFeeds) (rules : Rule
   pub fed_whole : (ts : List Transaction) (history : List Event) → IsPrefix (opening true ts) history → IsLegal rules history → fed_in history ≡ ts
   fed_whole ts history (more, is) legal =
       let split : history ≡ feeds_of ts ++ Close ∷ more = sym is ∙ append_assoc (feeds_of ts) (Close ∷ []) more in
-      let back = legal_back (fresh rules) (feeds_of ts) (Close ∷ more) (subst (IsLegal rules) split legal) in
+      let back = legal_back (fresh_ledger rules) (feeds_of ts) (Close ∷ more) (subst (IsLegal rules) split legal) in
       let none : fed_in more ≡ [] = no_feeds (ledger_after (ledger_of rules (feeds_of ts)) Close) more refl back.1 in
       ap fed_in split ∙ (fed_feeds ts (Close ∷ more) ∙ (ap (λ us. ts ++ us) none ∙ append-nil ts))
 
@@ -142,9 +142,9 @@ module _ (tells : LedgersTellHistories) (feeds : LedgersTellFeeds) (rules : Rule
       → (ledger_of rules front).closed ≡ true → unwritten (ledger_of rules front) ≡ [] → written_in history ≡ length (timed ts)
   written_whole ts front history (back, is) legal fed closed none =
       let both : IsLegal rules (front ++ back) = subst (IsLegal rules) (sym is) legal in
-      let early = tells rules front (legal_front (fresh rules) front back both) in
+      let early = tells rules front (legal_front (fresh_ledger rules) front back both) in
       let late = tells rules history legal in
-      let nothing : fed_in back ≡ [] = no_feeds (ledger_of rules front) back closed (legal_back (fresh rules) front back both) in
+      let nothing : fed_in back ≡ [] = no_feeds (ledger_of rules front) back closed (legal_back (fresh_ledger rules) front back both) in
       let fed_front : fed_in front ≡ ts =
       sym (append-nil (fed_in front)) ∙ (ap (λ us. fed_in front ++ us) (sym nothing) ∙ (sym (fed_both front back) ∙ (ap fed_in is ∙ fed))) in
       let changes : length (timed (ledger_of rules front).fed) ≡ length (timed ts) = ap (λ us. length (timed us)) ((feeds rules front).fed ∙ fed_front) in

@@ -13,7 +13,7 @@ use Rattle.ps_store.specs.declared.events.Event.TheVariants.{Feed, Close, Write,
 use Rattle.ps_store.specs.Histories.{LedgersTellHistories, LedgersTellOneGeneration, has_deploy, written_in}
 use Rattle.ps_store.specs.Keeping.{IsNarrow}
 use Rattle.ps_store.specs.LedgerLaws.{LedgersTellFeeds, fed_in}
-use Rattle.ps_store.specs.Ledgers.{Ledger, fresh, ledger_of, IsLegal, unwritten}
+use Rattle.ps_store.specs.Ledgers.{Ledger, fresh_ledger, ledger_of, IsLegal, unwritten}
 use Rattle.ps_store.specs.Limits.{usual_limits}
 use Rattle.ps_store.specs.Originals.{Timed, timed, after, key_of, entries_at, change_ops, ops_from}
 use Rattle.ps_files.specs.declared.faults.Limit.{Limit}
@@ -124,7 +124,7 @@ module _ (tells : LedgersTellHistories) (one : LedgersTellOneGeneration) (feeds 
   whole = subst (IsLegal rules) (sym run.earlier.1) run.stood.1.stands.legal
 
   legal : IsLegal rules run.seen
-  legal = legal_front (fresh rules) run.seen back whole
+  legal = legal_front (fresh_ledger rules) run.seen back whole
 
   plain_history : has_deploy run.history ≡ false
   plain_history = none_deployed run.history (subst (λ (o : Option RuleSet). AllByRecursion (DeploysOnly o) run.history) none run.stood.1.deploys)

@@ -15,7 +15,7 @@ use Rattle.ps_store.specs.declared.events.Event.{Event}
 use Rattle.ps_store.specs.declared.events.Event.TheVariants.{Feed, Close, Write, Commit, Compact, WriteCheckpoint, Deploy, Build, Switch, Abandon}
 use Rattle.ps_store.specs.Generations.{Coming, last_change, is_earlier, queued, queue_of, queue_in, with_change}
 use Rattle.ps_store.specs.LedgerLaws.{fed_in}
-use Rattle.ps_store.specs.Ledgers.{Ledger, fresh, ledger_after, ledger_of, timed_of, unwritten, write_next, build_next, build_with, switch_to, drop_coming}
+use Rattle.ps_store.specs.Ledgers.{Ledger, fresh_ledger, ledger_after, ledger_of, timed_of, unwritten, write_next, build_next, build_with, switch_to, drop_coming}
 use Rattle.ps_store.specs.Originals.{Timed, timed, timed_from, key_of, after}
 use Rattle.ps_workers.specs.Terms.{DeploysOnly}
 
@@ -202,4 +202,4 @@ module _ (P : Timed → Type 0) (R : RuleSet → Type 0) where
 
     -- a history that feeds such changes alone, and brings no rules but the next ones
     pub has_such : (rules : RuleSet) (history : List Event) → R rules → All (timed (fed_in history)) → AllByRecursion (DeploysOnly next) history → HasSuch (ledger_of rules history)
-    has_such rules history own all only = such_all (fresh rules) history (brings history all only) (record { fed = tt; rules = own; rows = tt; coming = tt })
+    has_such rules history own all only = such_all (fresh_ledger rules) history (brings history all only) (record { fed = tt; rules = own; rows = tt; coming = tt })

@@ -12,7 +12,7 @@ use Rattle.ps_definitions.specs.RuleSets.{RuleSet}
 use Rattle.ps_store.specs.Generations.{Coming}
 use Rattle.ps_store.specs.Histories.{LedgersTellHistories, LedgersTellOneGeneration, has_deploy}
 use Rattle.ps_store.specs.LedgerLaws.{LedgersTellFeeds, LedgersTellReach, fed_in}
-use Rattle.ps_store.specs.Ledgers.{fresh, ledger_of, IsLegal}
+use Rattle.ps_store.specs.Ledgers.{fresh_ledger, ledger_of, IsLegal}
 use Rattle.ps_store.specs.Originals.{Timed, timed}
 use Rattle.ps_store.specs.Readings.{committed_of}
 use Rattle.ps_workers.specs.declared.shared.Terms.{Terms}
@@ -96,7 +96,7 @@ module _ (tells : LedgersTellHistories) (generation : LedgersTellOneGeneration) 
   fed_seen run = ap fed_in (sym run.later.1) ∙ (fed_both start run.later.0 ∙ ap (λ (ts : List Transaction). ts ++ fed_in run.later.0) fed_first)
 
   legal_seen : (run : Run) → IsLegal inputs.rules run.seen
-  legal_seen run = legal_front (fresh inputs.rules) run.seen run.earlier.0 (subst (IsLegal inputs.rules) (sym run.earlier.1) run.stood.1.stands.legal)
+  legal_seen run = legal_front (fresh_ledger inputs.rules) run.seen run.earlier.0 (subst (IsLegal inputs.rules) (sym run.earlier.1) run.stood.1.stands.legal)
 
   -- a drained store has written these
   fits : (run : Run) → IsStoreDrained (ledger_of inputs.rules run.seen) → inputs.next ≡ None → limit_passed_by inputs ≡ None

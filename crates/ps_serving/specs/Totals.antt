@@ -10,7 +10,7 @@ use Rattle.ps_store.specs.LedgerLaws.{fed_in}
 use Rattle.ps_store.specs.Ledgers.{IsLegal, ledger_of}
 use Rattle.ps_store.specs.Originals.{ops_from, timed}
 use Rattle.ps_store.specs.declared.entered.Entered.{Entered}
-use Rattle.ps_store.specs.Totals.{names_of, ops_of, totals_of}
+use Rattle.ps_store.specs.Totals.{buckets_entered, entered_ops, totals_of}
 
 -- the numbers of operations, of the buckets that they lie in, and their sum
 abbrev pub totals_by : List Transaction → List Entered → Totals
@@ -18,8 +18,8 @@ totals_by transactions entered = record {
   transactions = length transactions;
   changes = length (timed transactions);
   operations = length entered;
-  buckets = length (names_of entered);
-  sum = record { 0 = sum_of (ops_of entered) };
+  buckets = length (buckets_entered entered);
+  sum = record { 0 = sum_of (entered_ops entered) };
 }
 
 -- the totals of transactions and of their original operations

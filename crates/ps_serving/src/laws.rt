@@ -2,14 +2,12 @@
 
 ghost use Rattle.ps_serving.specs.Totals.{TotalsAreOne};
 
-use ps_store::{ledgers_tell_events, ledgers_tell_histories, ledgers_tell_ops};
-
 /// A law: all histories that feed the same transactions and write all their changes, with no new rules, have the same totals, whatever batches they wrote, and
 /// whatever they committed, compacted and numbered between.
 pub fn totals_are_one()
     ensures { TotalsAreOne }
 {
-    ledgers_tell_events();
-    ledgers_tell_histories();
-    ledgers_tell_ops();
+    ps_store::laws::ledgers_tell_events();
+    ps_store::laws::ledgers_tell_histories();
+    ps_store::laws::ledgers_tell_ops();
 }

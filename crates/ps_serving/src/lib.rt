@@ -6,13 +6,12 @@ mod ends;
 mod feeding;
 mod grounds;
 mod judging;
-mod laws;
+pub mod laws;
 mod printing;
 mod running;
 mod serving;
 mod stacks;
 mod threads;
 
-pub use laws::totals_are_one;
 pub use ps_connections::Hears;
 pub use serving::run_serve;

@@ -12,7 +12,7 @@ ghost use Rattle.ps_serving.specs.Answers.{AnswersServe, MissesServe, SaysWhy, w
 use crate::feeding::open_fed;
 use crate::grounds::{Ground, Tools};
 use crate::judging::judge;
-use crate::laws::totals_are_one;
+use crate::laws;
 use crate::printing::{print_listening, print_totals};
 use crate::running::Pace;
 use crate::stacks::stack_for;
@@ -27,9 +27,7 @@ use ps_lock::Seat;
 use ps_serve::Site;
 use ps_serve_inputs::{Inputs, ServeFault, load_inputs, say_serve};
 use ps_serve_words::{ServeWords, WordsFault, read_serve_words};
-use ps_store::{
-    Totals, ledgers_tell_events, ledgers_tell_histories, ledgers_tell_ops, ledgers_tell_reach,
-};
+use ps_store::Totals;
 use ps_workers::{NextRules, SharedStore, totals_in_turn};
 use std::alloc::Global;
 use std::sync::Wait;
@@ -123,7 +121,7 @@ fn serve_fed<
         (record { opened = D.opened doors.new; coming = D.coming doors.new; closed = D.closed doors.new; faults = D.faults doors.new })
         (record { taken = O.taken out.old; faults = O.faults out.old }) (record { taken = O.taken out.new; faults = O.faults out.new }) result }
 {
-    ledgers_tell_events();
+    ps_store::laws::ledgers_tell_events();
     let (seat, ends) = run(ground, seat, next, pace, doors)?;
     let (_seat, _look, totals) = totals_in_turn(ground.tools.rt, ground.lock, seat);
     fed_by_connections(ends.connections.connections, fed, totals)?;
@@ -156,11 +154,11 @@ fn serve<
         (record { taken = O.taken out.old; faults = O.faults out.old }) (record { taken = O.taken out.new; faults = O.faults out.new }) result }
     ensures missed { MissesServe (F.missed files.old) (F.missed files.new) result }
 {
-    ledgers_tell_events();
-    ledgers_tell_histories();
-    ledgers_tell_ops();
-    ledgers_tell_reach();
-    totals_are_one();
+    ps_store::laws::ledgers_tell_events();
+    ps_store::laws::ledgers_tell_histories();
+    ps_store::laws::ledgers_tell_ops();
+    ps_store::laws::ledgers_tell_reach();
+    laws::totals_are_one();
     let Inputs {
         rules,
         next,

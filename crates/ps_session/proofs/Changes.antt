@@ -5,7 +5,7 @@ use Rattle.std.proofs.lemmas.Bool.{cases_Bool}
 use Rattle.std.proofs.lemmas.List.{get_or-map}
 use Rattle.ps_lines.specs.declared.lines.Entry.{Entry}
 use Rattle.ps_bucket_log.specs.declared.takes.TakenBucket.{TakenBucket}
-use Rattle.ps_session.specs.Takes.{bucket_in, is_in, same_bucket, same_buckets, removed, updated, is_as, entry_of}
+use Rattle.ps_session.specs.Takes.{bucket_in, has_taken_bucket, same_bucket, same_buckets, removed, updated, is_as, entry_of}
 use Rattle.ps_session.specs.Matches.{match_from, match_of, is_as_found}
 
 -- ---- nothing has changed
@@ -20,7 +20,7 @@ same_lengths (x ∷ xs) (y ∷ ys) apart =
 
 -- ---- what is found of a name
 
-pub found_is_in : (at : ℕ) (name : List ℕ) (bs : List TakenBucket) → is_some (match_from at name bs) ≡ is_in bs name
+pub found_is_in : (at : ℕ) (name : List ℕ) (bs : List TakenBucket) → is_some (match_from at name bs) ≡ has_taken_bucket bs name
 found_is_in at name [] = refl
 found_is_in at name (x ∷ xs) = elim (cases_Bool (bytes_eq name x.name)) [ inl same ↦ rw same refl | inr other ↦ rw other (found_is_in (suc at) name xs) ]
 
@@ -37,14 +37,14 @@ is_as_matched old b = found_is_as 0 b.name old old b (λ i j e. ap (λ (k : ℕ)
 
 -- ---- the removed names
 
-removed_cons : (new : List TakenBucket) (b : TakenBucket) (bs : List TakenBucket) → removed (b ∷ bs) new ≡ cond (is_in new b.name) (removed bs new) (b.name ∷ removed bs new)
-removed_cons new b bs = elim (cases_Bool (is_in new b.name)) [ inl there ↦ rw there refl | inr gone ↦ rw gone refl ]
+removed_cons : (new : List TakenBucket) (b : TakenBucket) (bs : List TakenBucket) → removed (b ∷ bs) new ≡ cond (has_taken_bucket new b.name) (removed bs new) (b.name ∷ removed bs new)
+removed_cons new b bs = elim (cases_Bool (has_taken_bucket new b.name)) [ inl there ↦ rw there refl | inr gone ↦ rw gone refl ]
 
 pub removed_stays : (old new : List TakenBucket) (names whole : List (List ℕ)) (i : ℕ) (d : TakenBucket) → i < length old → is_some (match_of new (get_or old i d)) ≡ true
     → names ++ removed (drop i old) new ≡ whole → names ++ removed (drop (i + 1) old) new ≡ whole
 removed_stays old new names whole i d within found so_far =
     let b = get_or old i d in
-    let there : is_in new b.name ≡ true = sym (found_is_in 0 b.name new) ∙ found in
+    let there : has_taken_bucket new b.name ≡ true = sym (found_is_in 0 b.name new) ∙ found in
     let split = drop-cons old i d within in
     rw add-one (ap (λ (ns : List (List ℕ)). names ++ ns) (sym (ap (λ (bs : List TakenBucket). removed bs new) split ∙ removed_cons new b (drop (suc i) old)
     ∙ ap (λ (t : Bool). cond t (removed (drop (suc i) old) new) (b.name ∷ removed (drop (suc i) old) new)) there)) ∙ so_far)
@@ -53,7 +53,7 @@ pub removed_goes : (old new : List TakenBucket) (names whole : List (List ℕ)) 
     → names ++ removed (drop i old) new ≡ whole → (names ++ (get_or old i d).name ∷ []) ++ removed (drop (i + 1) old) new ≡ whole
 removed_goes old new names whole i d within found so_far =
     let b = get_or old i d in
-    let gone : is_in new b.name ≡ false = sym (found_is_in 0 b.name new) ∙ found in
+    let gone : has_taken_bucket new b.name ≡ false = sym (found_is_in 0 b.name new) ∙ found in
     let split = drop-cons old i d within in
     rw (add-one, append_assoc) (ap (λ (ns : List (List ℕ)). names ++ ns) (sym (ap (λ (bs : List TakenBucket). removed bs new) split ∙ removed_cons new b (drop (suc i) old)
     ∙ ap (λ (t : Bool). cond t (removed (drop (suc i) old) new) (b.name ∷ removed (drop (suc i) old) new)) gone)) ∙ so_far)

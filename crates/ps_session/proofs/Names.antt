@@ -10,7 +10,7 @@ use Rattle.std.specs.declared.cmp.Ordering.TheVariants.{Less}
 use Rattle.std.proofs.lemmas.Bool.{cases_Bool}
 use Rattle.std.proofs.lemmas.Slice.Eq.{bytes_eq-Decides}
 use Rattle.ps_bucket_log.specs.declared.takes.TakenBucket.{TakenBucket}
-use Rattle.ps_session.specs.Takes.{NamesRise, name_of}
+use Rattle.ps_session.specs.Takes.{NamesRise, taken_name}
 use Rattle.ps_session.specs.Matches.{is_below}
 
 pub same_name : (a b : List ℕ) → bytes_eq a b ≡ true → a ≡ b
@@ -66,7 +66,7 @@ abbrev pub Rise : List TakenBucket → Type 0
 Rise [] = Unit {0}
 Rise (b ∷ bs) = AllAbove b.name bs × Rise bs
 
-above_of : (name : List ℕ) (bs : List TakenBucket) → AllByRecursion (λ other. slice_cmp nat_cmp name other ≡ Less) (map name_of bs) → AllAbove name bs
+above_of : (name : List ℕ) (bs : List TakenBucket) → AllByRecursion (λ other. slice_cmp nat_cmp name other ≡ Less) (map taken_name bs) → AllAbove name bs
 above_of name [] h = tt
 above_of name (b ∷ bs) h = (h.0, above_of name bs h.1)
 

@@ -14,7 +14,7 @@ use Rattle.ps_lines.specs.declared.bodies.Known.{Known}
 use Rattle.ps_bucket_log.specs.declared.takes.TakenBucket.{TakenBucket}
 use Rattle.ps_session.specs.Takes.{place_in}
 use Rattle.ps_session.specs.Sessions.{known_in, first_behind, places_in, with_place}
-use Rattle.ps_session.specs.Kept.{place_of, done_front}
+use Rattle.ps_session.specs.Kept.{place_beside, done_front}
 use Rattle.ps_session.specs.Matches.{match_from, match_of, zero_id, place_at}
 use Rattle.ps_session.proofs.Names.{Rise, AllAbove, same_name, name_itself, apart_above, above_at}
 
@@ -58,14 +58,14 @@ Agrees f (b ∷ bs) [] = ⊥
 Agrees f (b ∷ bs) (p ∷ ps) = (f b.name ≡ p.0) × Agrees f bs ps
 
 agrees_behind : (b : TakenBucket) (p : OpId) (all : List TakenBucket) (places : List OpId) (bs : List TakenBucket) (ps : List OpId) → AllAbove b.name bs
-    → Agrees (place_of all places) bs ps → Agrees (place_of (b ∷ all) (p ∷ places)) bs ps
+    → Agrees (place_beside all places) bs ps → Agrees (place_beside (b ∷ all) (p ∷ places)) bs ps
 agrees_behind b p all places [] ps above agrees = tt
 agrees_behind b p all places (c ∷ cs) [] above agrees = agrees
 agrees_behind b p all places (c ∷ cs) (q ∷ qs) above agrees =
     let apart : bytes_eq c.name b.name ≡ false = apart_above c.name b.name above.0 in
     (rw apart agrees.0, agrees_behind b p all places cs qs above.1 agrees.1)
 
-pub places_agree : (bs : List TakenBucket) (ps : List OpId) → Rise bs → length ps ≡ length bs → Agrees (place_of bs ps) bs ps
+pub places_agree : (bs : List TakenBucket) (ps : List OpId) → Rise bs → length ps ≡ length bs → Agrees (place_beside bs ps) bs ps
 places_agree [] ps rise beside = tt
 places_agree (b ∷ bs) [] rise beside = absurd (omega arith)
 places_agree (b ∷ bs) (p ∷ ps) rise beside = (rw (name_itself b.name) refl, agrees_behind b p bs ps bs ps rise.0 (places_agree bs ps rise.1 (omega arith)))
@@ -113,10 +113,10 @@ first_behind_none f (b ∷ bs) (p ∷ ps) agrees past = elim (cases_Bool (nat_lt
 -- ---- a place changes
 
 pub place_set : (bs : List TakenBucket) (ps : List OpId) (k : ℕ) (d : TakenBucket) (id : OpId) (q : List ℕ) → Rise bs → length ps ≡ length bs → k < length bs
-    → place_of bs (set ps k id) q ≡ with_place (get_or bs k d).name id.0 (place_of bs ps) q
+    → place_beside bs (set ps k id) q ≡ with_place (get_or bs k d).name id.0 (place_beside bs ps) q
 place_set [] ps k d id q rise beside within = absurd (omega arith)
 place_set (b ∷ bs) [] k d id q rise beside within = absurd (omega arith)
-place_set (b ∷ bs) (p ∷ ps) zero d id q rise beside within = rw (nat_list_eq_equiv.symm b.name q) (same (bytes_eq q b.name) id.0 p.0 (place_of bs ps q))
+place_set (b ∷ bs) (p ∷ ps) zero d id q rise beside within = rw (nat_list_eq_equiv.symm b.name q) (same (bytes_eq q b.name) id.0 p.0 (place_beside bs ps q))
   where
     same : (t : Bool) (n m r : ℕ) → cond t n r ≡ cond t n (cond t m r)
     same true n m r = refl
@@ -156,7 +156,7 @@ done_after bs ps id cursor is =
 
 -- ---- places after a take
 
-pub places_placed : (f : List ℕ → ℕ) (bs : List TakenBucket) (name : List ℕ) → place_of bs (map (λ (b : TakenBucket). record { 0 = f b.name }) bs) name ≡ places_in bs f name
+pub places_placed : (f : List ℕ → ℕ) (bs : List TakenBucket) (name : List ℕ) → place_beside bs (map (λ (b : TakenBucket). record { 0 = f b.name }) bs) name ≡ places_in bs f name
 places_placed f [] name = refl
 places_placed f (b ∷ bs) name = elim (cases_Bool (bytes_eq name b.name)) [
   | inl same ↦ rw same (ap f (sym (same_name name b.name same)))
@@ -164,7 +164,7 @@ places_placed f (b ∷ bs) name = elim (cases_Bool (bytes_eq name b.name)) [
 ]
 
 place_found : (at : ℕ) (name : List ℕ) (bs : List TakenBucket) (all ps : List OpId) → length ps ≡ length bs → ((i j : ℕ) → i ≡ at + j → slice_get all i ≡ slice_get ps j)
-    → (place_at all (match_from at name bs)).0 ≡ place_of bs ps name
+    → (place_at all (match_from at name bs)).0 ≡ place_beside bs ps name
 place_found at name [] all ps lengths beside = refl
 place_found at name (b ∷ bs) all [] lengths beside = absurd (omega arith)
 place_found at name (b ∷ bs) all (p ∷ ps) lengths beside = elim (cases_Bool (bytes_eq name b.name)) [
@@ -173,7 +173,7 @@ place_found at name (b ∷ bs) all (p ∷ ps) lengths beside = elim (cases_Bool 
 ]
 
 pub places_found : (old : List TakenBucket) (ps : List OpId) (new : List TakenBucket) → length ps ≡ length old
-    → map (place_at ps) (map (match_of old) new) ≡ map (λ (b : TakenBucket). record { 0 = place_of old ps b.name }) new
+    → map (place_at ps) (map (match_of old) new) ≡ map (λ (b : TakenBucket). record { 0 = place_beside old ps b.name }) new
 places_found old ps [] lengths = refl
 places_found old ps (b ∷ bs) lengths =
     let here = place_found 0 b.name old ps ps lengths (λ i j e. ap (λ (k : ℕ). slice_get ps k) (omega arith)) in

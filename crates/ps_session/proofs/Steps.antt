@@ -13,32 +13,32 @@ use Rattle.ps_bucket_log.specs.declared.takes.TakenBucket.{TakenBucket}
 use Rattle.ps_session.specs.declared.actions.Action.TheVariants.{Read, Complete}
 use Rattle.ps_session.specs.declared.phases.Phase.{Phase}
 use Rattle.ps_session.specs.declared.phases.Phase.TheVariants.{Start, Download, Void, Done}
-use Rattle.ps_session.specs.Takes.{NamesRise, name_of, same_bucket, same_buckets, is_unchanged, place_in}
+use Rattle.ps_session.specs.Takes.{NamesRise, taken_name, same_bucket, same_buckets, is_unchanged, place_in}
 use Rattle.ps_session.specs.Sessions.{SessionState, Turned, requested_in, with_place, behind, action_in, next_action, download_action, IsReading, IsReadAt, took_in, took, with_checkpoint, with_diff, read, read_of, read_in, phase_after}
-use Rattle.ps_session.specs.Kept.{Kept, place_of, state_of, done_front, IsKept}
+use Rattle.ps_session.specs.Kept.{KeptSession, place_beside, state_of, done_front, IsKept}
 use Rattle.ps_session.specs.Matches.{match_of, requested_place, place_at}
 use Rattle.ps_session.proofs.Names.{rise_of, same_name}
 use Rattle.ps_session.proofs.Seats.{Agrees, places_agree, agree_at, place_in_at, first_behind_at, first_behind_none, place_set, places_placed, places_found}
 
-module _ (kept : Kept) (cursor : ℕ) (good : IsKept kept.last kept.places cursor) where
-  agrees : Agrees (place_of kept.last.buckets kept.places) kept.last.buckets kept.places
+module _ (kept : KeptSession) (cursor : ℕ) (good : IsKept kept.last kept.places cursor) where
+  agrees : Agrees (place_beside kept.last.buckets kept.places) kept.last.buckets kept.places
   agrees = places_agree kept.last.buckets kept.places (rise_of kept.last.buckets good.rise) good.beside
 
   -- the bucket at the cursor is the first that is behind
   pub behind_at : (d : TakenBucket) → cursor < length kept.last.buckets → behind (state_of kept) ≡ Some (get_or kept.last.buckets cursor d)
   behind_at d within =
       let inside : done_front kept.last.buckets kept.places < length kept.last.buckets = subst (λ (n : ℕ). n < length kept.last.buckets) good.done within in
-      first_behind_at (place_of kept.last.buckets kept.places) kept.last.buckets kept.places d agrees inside
+      first_behind_at (place_beside kept.last.buckets kept.places) kept.last.buckets kept.places d agrees inside
       ∙ ap (λ (n : ℕ). Some (get_or kept.last.buckets n d)) (sym good.done)
 
   pub behind_none : length kept.last.buckets ≤ cursor → behind (state_of kept) ≡ None
   behind_none past =
       let over : length kept.last.buckets ≤ done_front kept.last.buckets kept.places = subst (λ (n : ℕ). length kept.last.buckets ≤ n) good.done past in
-      first_behind_none (place_of kept.last.buckets kept.places) kept.last.buckets kept.places agrees over
+      first_behind_none (place_beside kept.last.buckets kept.places) kept.last.buckets kept.places agrees over
 
   pub place_here : (d : TakenBucket) (e : OpId) → cursor < length kept.last.buckets
       → (state_of kept).places (get_or kept.last.buckets cursor d).name ≡ (get_or kept.places cursor e).0
-  place_here d e within = agree_at (place_of kept.last.buckets kept.places) kept.last.buckets kept.places cursor d e agrees within
+  place_here d e within = agree_at (place_beside kept.last.buckets kept.places) kept.last.buckets kept.places cursor d e agrees within
 
   -- ---- the actions
 
@@ -98,11 +98,11 @@ module _ (kept : Kept) (cursor : ℕ) (good : IsKept kept.last kept.places curso
   read_within place h = let r = read_at place h in subst (λ (n : ℕ). n < length kept.last.buckets) r.0 r.1
 
   pub bucket_read : (place : ℕ) (b : TakenBucket) → IsReadAt place (next_action (state_of kept)) → slice_get kept.last.buckets place ≡ Some b
-      → option_map name_of (behind (state_of kept)) ≡ Some b.name
+      → option_map taken_name (behind (state_of kept)) ≡ Some b.name
   bucket_read place b h is =
       let r = read_at place h in
       let found : get_or kept.last.buckets cursor b ≡ b = get_or_from_slice_get kept.last.buckets cursor b b (ap (λ (n : ℕ). slice_get kept.last.buckets n) r.0 ∙ is) in
-      ap (λ (o : Option TakenBucket). option_map name_of o) (behind_at b r.1) ∙ ap (λ (x : TakenBucket). Some (name_of x)) found
+      ap (λ (o : Option TakenBucket). option_map taken_name o) (behind_at b r.1) ∙ ap (λ (x : TakenBucket). Some (taken_name x)) found
 
   -- ---- a batch
 
@@ -125,7 +125,7 @@ module _ (kept : Kept) (cursor : ℕ) (good : IsKept kept.last kept.places curso
       })
       ∙ (λ i. record {
         requested = requested_in kept.known;
-        places = λ q. with_place b.name (target i) (place_of kept.last.buckets kept.places) q;
+        places = λ q. with_place b.name (target i) (place_beside kept.last.buckets kept.places) q;
         last = kept.last;
         phase = phase_after kept.last.last_op batch.target;
       }) in
@@ -142,7 +142,7 @@ module _ (kept : Kept) (cursor : ℕ) (good : IsKept kept.last kept.places curso
       λ i. Some (Data b.name (record { 0 = sym after i }) batch.has_more batch.ops (record { 0 = target i })) in
       made ∙ sym (ap (λ (o : Option TakenBucket). (read_of o (state_of kept) batch).line) (behind_at d within) ∙ ap (λ (p : Option OpId). (read_in p (state_of kept) b.name batch).line) passed)
 
-  pub sent_as : (new : Kept) (batch : Batch) (b : TakenBucket) (after next : OpId) (phase : Phase) → batch.passed ≡ None → cursor < length kept.last.buckets
+  pub sent_as : (new : KeptSession) (batch : Batch) (b : TakenBucket) (after next : OpId) (phase : Phase) → batch.passed ≡ None → cursor < length kept.last.buckets
       → after ≡ get_or kept.places cursor after → next.0 ≡ place_after after.0 batch.ops → phase ≡ phase_after kept.last.last_op batch.target
       → new ≡ record kept { phase = phase; places = set kept.places (done_front kept.last.buckets kept.places) next }
       → state_of new ≡ (read (state_of kept) batch).session
@@ -179,10 +179,10 @@ past_end (b ∷ bs) (suc place) is = let behind = past_end bs place is in omega 
 -- ---- takes
 
 -- what is kept once a checkpoint is followed
-abbrev pub followed : Kept → Taken → List OpId → Kept
+abbrev pub followed : KeptSession → Taken → List OpId → KeptSession
 followed kept taken places = record kept { phase = Download; last = taken; places = places }
 
-pub first_state : (kept : Kept) (taken : Taken) (places : List OpId) → places ≡ map (requested_place kept.known) taken.buckets
+pub first_state : (kept : KeptSession) (taken : Taken) (places : List OpId) → places ≡ map (requested_place kept.known) taken.buckets
     → state_of (followed kept taken places) ≡ (with_checkpoint (state_of kept) taken).session
 first_state kept taken places is = λ i. record {
   requested = requested_in kept.known;
@@ -191,10 +191,10 @@ first_state kept taken places is = λ i. record {
   phase = Download;
 }
   where
-    placed : (q : List ℕ) → place_of taken.buckets places q ≡ (with_checkpoint (state_of kept) taken).session.places q
-    placed q = ap (λ (ps : List OpId). place_of taken.buckets ps q) is ∙ places_placed (requested_in kept.known) taken.buckets q
+    placed : (q : List ℕ) → place_beside taken.buckets places q ≡ (with_checkpoint (state_of kept) taken).session.places q
+    placed q = ap (λ (ps : List OpId). place_beside taken.buckets ps q) is ∙ places_placed (requested_in kept.known) taken.buckets q
 
-pub other_state : (kept : Kept) (taken : Taken) (places : List OpId) → length kept.places ≡ length kept.last.buckets
+pub other_state : (kept : KeptSession) (taken : Taken) (places : List OpId) → length kept.places ≡ length kept.last.buckets
     → places ≡ map (place_at kept.places) (map (match_of kept.last.buckets) taken.buckets)
     → state_of (followed kept taken places) ≡ (with_diff (state_of kept) taken).session
 other_state kept taken places beside is = λ i. record {
@@ -204,10 +204,10 @@ other_state kept taken places beside is = λ i. record {
   phase = Download;
 }
   where
-    placed : (q : List ℕ) → place_of taken.buckets places q ≡ (with_diff (state_of kept) taken).session.places q
+    placed : (q : List ℕ) → place_beside taken.buckets places q ≡ (with_diff (state_of kept) taken).session.places q
     placed q =
-        ap (λ (ps : List OpId). place_of taken.buckets ps q) (is ∙ places_found kept.last.buckets kept.places taken.buckets beside)
-        ∙ places_placed (place_of kept.last.buckets kept.places) taken.buckets q
+        ap (λ (ps : List OpId). place_beside taken.buckets ps q) (is ∙ places_found kept.last.buckets kept.places taken.buckets beside)
+        ∙ places_placed (place_beside kept.last.buckets kept.places) taken.buckets q
 
 -- nothing has changed that a line could tell
 
@@ -250,10 +250,10 @@ still_kept old new places cursor same good =
 abbrev took_done : Bool → SessionState → Taken → Turned
 took_done t s taken = cond t (record { session = record s { last = taken; phase = Done }; line = None }) (with_diff s taken)
 
-pub same_state : (kept : Kept) (taken : Taken) → kept.phase ≡ Done → is_unchanged kept.last taken ≡ true
+pub same_state : (kept : KeptSession) (taken : Taken) → kept.phase ≡ Done → is_unchanged kept.last taken ≡ true
     → state_of (record kept { last = taken }) ≡ (took (state_of kept) taken).session
 same_state kept taken phase same =
     let buckets = unchanged_buckets kept.last taken same in
     let made : state_of (record kept { last = taken }) ≡ record (state_of kept) { last = taken; phase = Done } =
-    λ i. record { requested = requested_in kept.known; places = λ q. place_of (sym buckets i) kept.places q; last = taken; phase = phase i } in
+    λ i. record { requested = requested_in kept.known; places = λ q. place_beside (sym buckets i) kept.places q; last = taken; phase = phase i } in
     made ∙ sym (ap (λ (p : Phase). (took_in p (state_of kept) taken).session) phase ∙ ap (λ (t : Bool). (took_done t (state_of kept) taken).session) same)

@@ -9,7 +9,7 @@ use Rattle.ps_session.specs.declared.phases.Phase.{Phase}
 use Rattle.ps_session.specs.Takes.{NamesRise}
 use Rattle.ps_session.specs.Sessions.{SessionState, requested_in}
 
-pub record Kept : Type 0 where
+pub record KeptSession : Type 0 where
   pub asker : Asker
   pub known : List Known
   pub phase : Phase
@@ -17,16 +17,16 @@ pub record Kept : Type 0 where
   pub places : List OpId
 
 -- the place that stands beside the bucket of a name, 0 where there is none
-abbrev pub place_of : List TakenBucket → List OpId → List ℕ → ℕ
-place_of [] places name = 0
-place_of (bucket ∷ buckets) [] name = 0
-place_of (bucket ∷ buckets) (place ∷ places) name = if bytes_eq name bucket.name then place.0 else place_of buckets places name
+abbrev pub place_beside : List TakenBucket → List OpId → List ℕ → ℕ
+place_beside [] places name = 0
+place_beside (bucket ∷ buckets) [] name = 0
+place_beside (bucket ∷ buckets) (place ∷ places) name = if bytes_eq name bucket.name then place.0 else place_beside buckets places name
 
 -- the session that is kept so
-abbrev pub state_of : Kept → SessionState
+abbrev pub state_of : KeptSession → SessionState
 state_of kept = record {
   requested = requested_in kept.known;
-  places = place_of kept.last.buckets kept.places;
+  places = place_beside kept.last.buckets kept.places;
   last = kept.last;
   phase = kept.phase;
 }

@@ -13,7 +13,7 @@ use Rattle.ps_session.specs.declared.actions.Action.{Action}
 use Rattle.ps_session.specs.declared.actions.Action.TheVariants.{Take, Read, Complete, Wait}
 use Rattle.ps_session.specs.declared.phases.Phase.{Phase}
 use Rattle.ps_session.specs.declared.phases.Phase.TheVariants.{Start, Download, Void, Done}
-use Rattle.ps_session.specs.Takes.{is_in, place_in, is_unchanged, first_line, diff_line}
+use Rattle.ps_session.specs.Takes.{has_taken_bucket, place_in, is_unchanged, first_line, diff_line}
 
 pub record SessionState : Type 0 where
   -- the id after which the client wants each bucket
@@ -101,7 +101,7 @@ IsReadAt at Wait = ⊥
 
 -- the places of what is no bucket any more go
 abbrev pub places_in : List TakenBucket → (List ℕ → ℕ) → List ℕ → ℕ
-places_in buckets places name = if is_in buckets name then places name else 0
+places_in buckets places name = if has_taken_bucket buckets name then places name else 0
 
 abbrev pub with_checkpoint : SessionState → Taken → Turned
 with_checkpoint s t = record {

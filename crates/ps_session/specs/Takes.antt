@@ -11,20 +11,20 @@ use Rattle.ps_bucket_log.specs.declared.takes.TakenBucket.{TakenBucket}
 
 -- ---- buckets by name
 
-abbrev pub name_of : TakenBucket → List ℕ
-name_of bucket = bucket.name
+abbrev pub taken_name : TakenBucket → List ℕ
+taken_name bucket = bucket.name
 
 -- the names rise in the order of their bytes, so none stands twice
 abbrev pub NamesRise : List TakenBucket → Type 0
-NamesRise buckets = IsStrictlySortedBy (slice_cmp nat_cmp) (map name_of buckets)
+NamesRise buckets = IsStrictlySortedBy (slice_cmp nat_cmp) (map taken_name buckets)
 
 -- the bucket of a name
 abbrev pub bucket_in : List ℕ → List TakenBucket → Option TakenBucket
 bucket_in name [] = None
 bucket_in name (bucket ∷ buckets) = if bytes_eq name bucket.name then Some bucket else bucket_in name buckets
 
-abbrev pub is_in : List TakenBucket → List ℕ → Bool
-is_in buckets name = is_some (bucket_in name buckets)
+abbrev pub has_taken_bucket : List TakenBucket → List ℕ → Bool
+has_taken_bucket buckets name = is_some (bucket_in name buckets)
 
 -- the place of a name: how many buckets stand before the one of that name
 abbrev pub place_in : List ℕ → List TakenBucket → ℕ
@@ -54,7 +54,7 @@ is_unchanged old new = old.last_op.0 == new.last_op.0 && (same_number old.number
 
 -- the names that are gone
 abbrev pub removed : List TakenBucket → List TakenBucket → List (List ℕ)
-removed old new = filter (λ name. not (is_in new name)) (map name_of old)
+removed old new = filter (λ name. not (has_taken_bucket new name)) (map taken_name old)
 
 -- a bucket is there as it was, if it was there at all
 abbrev pub is_as : Option TakenBucket → TakenBucket → Bool

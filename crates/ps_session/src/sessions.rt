@@ -3,7 +3,7 @@
 ghost use Rattle.std.specs.Prelude.{◌≡◌, ◌≢◌, ◌⊎◌, ◌↔◌, ◌<◌, [], Some, None, IfOk, OnOk, OnErr, IsTrue, option_map, length, slice_set};
 ghost use Rattle.ps_session.specs.declared.phases.Phase.TheVariants as phases;
 ghost use Rattle.ps_session.specs.declared.actions.Action.TheVariants as actions;
-ghost use Rattle.ps_session.specs.Takes.{NamesRise, name_of};
+ghost use Rattle.ps_session.specs.Takes.{NamesRise, taken_name};
 ghost use Rattle.ps_session.specs.Sessions.{IsTaking, IsReading, IsReadAt, IsDrained, nothing_taken, begin, requested_in, behind, next_action, took, with_checkpoint, with_diff, read, phase_after, finished};
 ghost use Rattle.ps_bucket_log.specs.Ops.{place_after};
 ghost use Rattle.ps_session.specs.Kept.{state_of, done_front};
@@ -52,9 +52,9 @@ impl Drop for Session {
 }
 
 impl Model for Session {
-    ghost use Rattle.ps_session.specs.Kept.{Kept};
+    ghost use Rattle.ps_session.specs.Kept.{KeptSession};
 
-    ghost Value = { Kept };
+    ghost Value = { KeptSession };
 
     ghost use Rattle.ps_session.specs.Kept.{IsKept};
 
@@ -149,7 +149,7 @@ impl Session {
     /// The name of the bucket that is read, at the place of the `Read`. Takes no memory.
     pub fn bucket_at(&self, place: usize) -> &Text
         requires { IsReadAt place (next_action (state_of self.now)) }
-        ensures { option_map name_of (behind (state_of self.now)) ≡ Some result.now }
+        ensures { option_map taken_name (behind (state_of self.now)) ≡ Some result.now }
     {
         &self.last.buckets.get(place).unwrap().name
     }

@@ -4,5 +4,5 @@
 mod faults;
 mod printing;
 
-pub use faults::want_of_memory;
+pub use faults::out_of_memory;
 pub use printing::{print_rows, push_rows};

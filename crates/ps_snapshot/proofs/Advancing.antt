@@ -13,11 +13,11 @@ use Rattle.ps_snapshot.specs.declared.faults.FillFault.{FillFault}
 use Rattle.ps_snapshot.specs.Types.{Chunk, Line, Begin, Rows, End, Changes, LineFault, LineTooLong, BadJson, BadShape, BadPosition, BadValue, BadChunk, NotRising, NotCovered, Memory}
 use Rattle.ps_snapshot.specs.Faults.{◌>>=◌, Reads, fault_of_failure, fault_of_line}
 use Rattle.ps_snapshot.specs.FirstCopies.{FirstCopy, nothing, after_line, copy_of, puts_of, is_next_chunk, belongs, position_of, lacking, CanCome, AreInPlace}
-use Rattle.ps_snapshot.specs.Fillings.{Fills, HasFailed, IsFilling, Advances, Accepts, LeavesBehind, Takes}
+use Rattle.ps_snapshot.specs.Fillings.{Fills, HasFailed, IsFilling, Advances, Accepts, LeavesBehind, TakesCopyLine}
 use Rattle.ps_snapshot.specs.Judging.{unless_open, judged, next_line}
-use Rattle.ps_snapshot.specs.Progress.{Holds}
-use Rattle.ps_snapshot.specs.Reading.{line_of}
-use Rattle.ps_snapshot.specs.Writing.{IsPending, HasCause, Writes}
+use Rattle.ps_snapshot.specs.Progress.{ProgressHolds}
+use Rattle.ps_snapshot.specs.Reading.{copy_line_of}
+use Rattle.ps_snapshot.specs.Writing.{IsPending, HasCause, WritesFed}
 use Rattle.ps_snapshot.proofs.Chunks.{both}
 use Rattle.ps_snapshot.proofs.Pending.{fold_more}
 
@@ -39,7 +39,7 @@ may_come copy line given h = by (belongs copy line) refl (nat_lt copy.last (posi
 
 -- and so may the next line of bytes
 pub next_comes : (copy : FirstCopy) (bytes : List ℕ) (line : Line) → next_line copy bytes ≡ Ok line → CanCome copy line
-next_comes copy bytes line h = by (line_of bytes) h
+next_comes copy bytes line h = by (copy_line_of bytes) h
   where
     by : (r : Result Line LineFault) → (r >>= λ line. judged copy line) ≡ Ok line → CanCome copy line
     by (Ok read) h = may_come copy read line h
@@ -64,13 +64,13 @@ copy_more lines line = fold_more after_line nothing lines line
 
 -- a filling after one line more
 pub fills_more : (fixed : Fixed) (lines : List Line) (line : Line) (old new : Filling) → Fills fixed old lines → CanCome (copy_of lines) line → new.failed ≡ None
-    → IsPending fixed (after_line (copy_of lines) line).fed 0 new.store → Holds new.progress (after_line (copy_of lines) line) → Fills fixed new (lines ++ line ∷ [])
+    → IsPending fixed (after_line (copy_of lines) line).fed 0 new.store → ProgressHolds new.progress (after_line (copy_of lines) line) → Fills fixed new (lines ++ line ∷ [])
 fills_more fixed lines line old new h can sound written holds =
     let same = sym (copy_more lines line) in
     record {
       sound = sound;
       written = subst (λ (c : FirstCopy). IsPending fixed c.fed 0 new.store) same written;
-      progress = subst (λ (c : FirstCopy). Holds new.progress c) same holds;
+      progress = subst (λ (c : FirstCopy). ProgressHolds new.progress c) same holds;
       placed = placed_more nothing lines line h.placed can;
       head = subst (λ (c : FirstCopy). head_of c.fed ≤ c.last) same (heads (copy_of lines) line h.head can.later);
     }
@@ -90,17 +90,17 @@ accepts_stay fixed lines new (Ok filled) h none = (fixed, lines, h.0)
 accepts_stay fixed lines new (Err fault) h none = failed_is new h.0 h.1 none
 
 pub accepts_takes : (fixed : Fixed) (lines : List Line) (line : Line) (bytes : List ℕ) (old new : Filling) (result : Result Filled FillFault) → next_line (copy_of lines) bytes ≡ Ok line
-    → Accepts fixed (lines ++ line ∷ []) new result → Takes fixed lines bytes old new result
+    → Accepts fixed (lines ++ line ∷ []) new result → TakesCopyLine fixed lines bytes old new result
 accepts_takes fixed lines line bytes old new (Ok filled) next h = (line, next, h.0, h.1)
-accepts_takes fixed lines line bytes old new (Err fault) next h = subst (λ (f : FillFault). Takes fixed lines bytes old new (Err f)) (sym h.2) (by h.0 h.1 h.3)
+accepts_takes fixed lines line bytes old new (Err fault) next h = subst (λ (f : FillFault). TakesCopyLine fixed lines bytes old new (Err f)) (sym h.2) (by h.0 h.1 h.3)
   where
-    by : (failure : Failure) → HasFailed new failure → HasCause fixed (copy_of (lines ++ line ∷ [])).fed failure → Takes fixed lines bytes old new (Err (fault_of_failure failure))
+    by : (failure : Failure) → HasFailed new failure → HasCause fixed (copy_of (lines ++ line ∷ [])).fed failure → TakesCopyLine fixed lines bytes old new (Err (fault_of_failure failure))
     by (failing.TooWide table id count) failed cause = (line, next, cause, failed)
     by (failing.OpsFull last) failed cause = (line, next, cause, failed)
     by failing.Memory failed cause = failed
 
 pub refused_takes : (fixed : Fixed) (lines : List Line) (bytes : List ℕ) (old new : Filling) (fault : LineFault) → Reads {X = Line} (Err fault) (next_line (copy_of lines) bytes)
-    → LeavesBehind fault old new → Takes fixed lines bytes old new (Err (fault_of_line fault))
+    → LeavesBehind fault old new → TakesCopyLine fixed lines bytes old new (Err (fault_of_line fault))
 refused_takes fixed lines bytes old new (LineTooLong length) h left = (h, left)
 refused_takes fixed lines bytes old new BadJson h left = (h, left)
 refused_takes fixed lines bytes old new BadShape h left = (h, left)
@@ -139,8 +139,8 @@ past_head fixed lines line old h can = let low = h.head in let later = can.later
 
 -- what it feeds was written, or why not
 pub feeds : (fixed : Fixed) (lines : List Line) (line : Line) (t : Transaction) (old new : Filling) (result : Result (Unit {0}) Failure) → Fills fixed old lines → CanCome (copy_of lines) line
-    → new.failed ≡ None → Holds new.progress (after_line (copy_of lines) line) → (after_line (copy_of lines) line).fed ≡ (copy_of lines).fed ++ t ∷ []
-    → Writes fixed ((copy_of lines).fed ++ t ∷ []) new.store result → Advances fixed (lines ++ line ∷ []) new result
+    → new.failed ≡ None → ProgressHolds new.progress (after_line (copy_of lines) line) → (after_line (copy_of lines) line).fed ≡ (copy_of lines).fed ++ t ∷ []
+    → WritesFed fixed ((copy_of lines).fed ++ t ∷ []) new.store result → Advances fixed (lines ++ line ∷ []) new result
 feeds fixed lines line t old new (Ok done) h can sound holds is wrote =
     fills_more fixed lines line old new h can sound (subst (λ (ts : List Transaction). IsPending fixed ts 0 new.store) (sym is) wrote) holds
 feeds fixed lines line t old new (Err failure) h can sound holds is wrote =

@@ -7,7 +7,7 @@ use Rattle.std.proofs.lemmas.Slice.Eq.{bytes_eq-Decides}
 use Rattle.ps_rows.specs.declared.changes.Change.{Change}
 use Rattle.ps_rows.specs.Source.{Key, key_cmp}
 use Rattle.ps_snapshot.specs.Types.{CopiedRow, Chunk}
-use Rattle.ps_snapshot.specs.FirstCopies.{FirstCopy, stands, put_of, is_above, is_within, ids_rise}
+use Rattle.ps_snapshot.specs.FirstCopies.{FirstCopy, stands, copied_put, is_above, is_within, ids_rise}
 use Rattle.ps_snapshot.specs.Laws.{row_found}
 use Rattle.ps_snapshot.proofs.Rows.{Found, row_after}
 
@@ -87,7 +87,7 @@ or_else (Some columns) row = Some columns
 
 -- the PUTs of copied rows
 abbrev pub puts : FirstCopy → Chunk → List CopiedRow → List Change
-puts copy chunk rows = map (put_of chunk.table) (filter (stands copy chunk) rows)
+puts copy chunk rows = map (copied_put chunk.table) (filter (stands copy chunk) rows)
 
 and_false : (b : Bool) → (b && false) ≡ false
 and_false true = refl
@@ -101,7 +101,7 @@ other_table copy chunk (row ∷ rows) q found h = by (stands copy chunk row) (ot
     apart : eq_by_cmp key_cmp q (chunk.table, row.id) ≡ false
     apart = same_keys q (chunk.table, row.id) ∙ ap (λ b. b && bytes_eq q.1 row.id) h
 
-    by : (b : Bool) → row_after q (puts copy chunk rows) found ≡ found → row_after q (map (put_of chunk.table) (cond b (row ∷ filter (stands copy chunk) rows) (filter (stands copy chunk) rows))) found ≡ found
+    by : (b : Bool) → row_after q (puts copy chunk rows) found ≡ found → row_after q (map (copied_put chunk.table) (cond b (row ∷ filter (stands copy chunk) rows) (filter (stands copy chunk) rows))) found ≡ found
     by true more = ap (λ b. row_after q (puts copy chunk rows) (cond b (Some row.row) found)) apart ∙ more
     by false more = more
 
@@ -116,7 +116,7 @@ passed_over copy chunk (row ∷ rows) q found h = by (stands copy chunk row) ref
     apart false e s = same_keys q (chunk.table, row.id) ∙ ap (λ b. bytes_eq q.0 chunk.table && b) e ∙ and_false (bytes_eq q.0 chunk.table)
 
     by : (b : Bool) → stands copy chunk row ≡ b → row_after q (puts copy chunk rows) found ≡ found
-        → row_after q (map (put_of chunk.table) (cond b (row ∷ filter (stands copy chunk) rows) (filter (stands copy chunk) rows))) found ≡ found
+        → row_after q (map (copied_put chunk.table) (cond b (row ∷ filter (stands copy chunk) rows) (filter (stands copy chunk) rows))) found ≡ found
     by true s more = ap (λ b. row_after q (puts copy chunk rows) (cond b (Some row.row) found)) (apart (bytes_eq q.1 row.id) refl s) ∙ more
     by false s more = more
 
@@ -135,20 +135,20 @@ copied copy chunk after (row ∷ rows) id found rise w =
     key = same_keys (chunk.table, id) (chunk.table, row.id) ∙ ap (λ b. b && bytes_eq id row.id) itself
 
     here : (b : Bool) → b ≡ true
-        → row_after (chunk.table, id) (map (put_of chunk.table) (cond b (row ∷ filter (stands copy chunk) rows) (filter (stands copy chunk) rows))) found
+        → row_after (chunk.table, id) (map (copied_put chunk.table) (cond b (row ∷ filter (stands copy chunk) rows) (filter (stands copy chunk) rows))) found
         ≡ row_after (chunk.table, id) (puts copy chunk rows) (cond (eq_by_cmp key_cmp (chunk.table, id) (chunk.table, row.id)) (Some row.row) found)
     here true t = refl
     here false t = absurd (cc)
 
     there : (b : Bool) → eq_by_cmp key_cmp (chunk.table, id) (chunk.table, row.id) ≡ false
-        → row_after (chunk.table, id) (map (put_of chunk.table) (cond b (row ∷ filter (stands copy chunk) rows) (filter (stands copy chunk) rows))) found
+        → row_after (chunk.table, id) (map (copied_put chunk.table) (cond b (row ∷ filter (stands copy chunk) rows) (filter (stands copy chunk) rows))) found
         ≡ row_after (chunk.table, id) (puts copy chunk rows) found
     there true e = ap (λ b. row_after (chunk.table, id) (puts copy chunk rows) (cond b (Some row.row) found)) e
     there false e = refl
 
     by : (b : Bool) → bytes_eq id row.id ≡ b → ids_rise (Some row.id) chunk.upto rows ≡ true
         → ((found : Found) → row_after (chunk.table, id) (puts copy chunk rows) found ≡ or_else (row_found id rows) found)
-        → row_after (chunk.table, id) (map (put_of chunk.table) (cond (stands copy chunk row) (row ∷ filter (stands copy chunk) rows) (filter (stands copy chunk) rows))) found
+        → row_after (chunk.table, id) (map (copied_put chunk.table) (cond (stands copy chunk row) (row ∷ filter (stands copy chunk) rows) (filter (stands copy chunk) rows))) found
         ≡ or_else (cond b (Some row.row) (row_found id rows)) found
     by true e left more =
         let same : id ≡ row.id = (bytes_eq-Decides id row.id).0 e in

@@ -10,7 +10,7 @@ use Rattle.ps_rows.specs.declared.changes.Transaction.{Transaction}
 use Rattle.ps_rows.specs.Source.{Key, Source}
 use Rattle.ps_snapshot.specs.Types.{Chunk, Line, Begin, Rows, End, Changes}
 use Rattle.ps_snapshot.specs.FirstCopies.{FirstCopy, nothing, after_line, copy_of, puts_of, is_changed, is_listed, follows, is_above, is_within, ids_rise, is_next_chunk, is_whole, first_open, CanCome, AreInPlace}
-use Rattle.ps_snapshot.specs.Laws.{row_at, row_found, changed_upto, IsAsItStood, AreAsTheyStood, IsWhole}
+use Rattle.ps_snapshot.specs.Laws.{columns_at, row_found, changed_upto, IsAsItStood, AreAsTheyStood, CopyIsWhole}
 use Rattle.ps_snapshot.proofs.Rows.{Found, row_after, upto_more, unchanged, forgets}
 use Rattle.ps_snapshot.proofs.Chunks.{both, puts, or_else, none_found, other_table, passed_over, copied}
 
@@ -18,10 +18,10 @@ use Rattle.ps_snapshot.proofs.Chunks.{both, puts, or_else, none_found, other_tab
 
 -- what change lines say of it, over the rows before, and what it is by what is fed
 abbrev pub Told : Source → FirstCopy → ℕ → Key → Found
-Told before copy p q = row_at (changed_upto before copy.told p) q
+Told before copy p q = columns_at (changed_upto before copy.told p) q
 
 abbrev pub Fed : FirstCopy → ℕ → Key → Found
-Fed copy p q = row_at (changed_upto [] copy.fed p) q
+Fed copy p q = columns_at (changed_upto [] copy.fed p) q
 
 abbrev pub is_covered : Option (Option (List ℕ)) → List ℕ → Bool
 is_covered None id = false
@@ -67,17 +67,17 @@ same_both false x y h = refl
 
 -- a transaction up to a position counts there
 upto_in : (source : Source) (ts : List Transaction) (t : Transaction) (p : ℕ) (q : Key) → t.position.0 ≤ p
-    → row_at (changed_upto source (ts ++ t ∷ []) p) q ≡ row_after q t.changes (row_at (changed_upto source ts p) q)
+    → columns_at (changed_upto source (ts ++ t ∷ []) p) q ≡ row_after q t.changes (columns_at (changed_upto source ts p) q)
 upto_in source ts t p q h =
     upto_more source ts t p q
-    ∙ ap (λ b. cond b (row_after q t.changes (row_at (changed_upto source ts p) q)) (row_at (changed_upto source ts p) q)) (le_is t.position.0 p h)
+    ∙ ap (λ b. cond b (row_after q t.changes (columns_at (changed_upto source ts p) q)) (columns_at (changed_upto source ts p) q)) (le_is t.position.0 p h)
 
 -- one that does not change the row counts nowhere
 upto_out : (source : Source) (ts : List Transaction) (t : Transaction) (p : ℕ) (q : Key) → is_changed q t.changes ≡ false
-    → row_at (changed_upto source (ts ++ t ∷ []) p) q ≡ row_at (changed_upto source ts p) q
+    → columns_at (changed_upto source (ts ++ t ∷ []) p) q ≡ columns_at (changed_upto source ts p) q
 upto_out source ts t p q h =
     upto_more source ts t p q
-    ∙ same_both (nat_le t.position.0 p) (row_after q t.changes (row_at (changed_upto source ts p) q)) (row_at (changed_upto source ts p) q) (unchanged q t.changes (row_at (changed_upto source ts p) q) h)
+    ∙ same_both (nat_le t.position.0 p) (row_after q t.changes (columns_at (changed_upto source ts p) q)) (columns_at (changed_upto source ts p) q) (unchanged q t.changes (columns_at (changed_upto source ts p) q) h)
 
 -- ---- a change line
 
@@ -318,7 +318,7 @@ ends before copy q end position (inr h) is past listed =
     let same : h.end ≡ end = cc in
     h.same listed position (omega (arith, same, past))
 
-pub whole : (before : Source) (lines : List Line) → AreInPlace nothing lines → AreAsTheyStood before nothing lines → IsWhole before (copy_of lines)
+pub whole : (before : Source) (lines : List Line) → AreInPlace nothing lines → AreAsTheyStood before nothing lines → CopyIsWhole before (copy_of lines)
 whole before [] placed stood end position table id is past listed = absurd (cc)
 whole before (Begin p tables ∷ lines) placed stood end position table id is past listed =
     ends before (copy_of (Begin p tables ∷ lines)) (table, id) end position

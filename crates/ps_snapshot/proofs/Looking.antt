@@ -11,7 +11,7 @@ use Rattle.ps_rows.specs.declared.changes.Change.{Change}
 use Rattle.ps_rows.specs.Keys.{keys_total}
 use Rattle.ps_rows.specs.Source.{Key, key_cmp}
 use Rattle.ps_snapshot.specs.Types.{CopiedRow}
-use Rattle.ps_snapshot.specs.FirstCopies.{is_changed, put_of, is_whole, first_open}
+use Rattle.ps_snapshot.specs.FirstCopies.{is_changed, copied_put, is_whole, first_open}
 use Rattle.ps_snapshot.specs.Progress.{kept_position}
 
 -- a text that is looked up is found by its bytes
@@ -66,10 +66,10 @@ put_beside false true all is = sym is
 put_beside false false all is = sym is
 
 -- a row more in front
-pub front_more : (table : List ℕ) (test : CopiedRow → Bool) (row : CopiedRow) (rows : List CopiedRow) → map (put_of table) (filter test (row ∷ rows)) ≡ map (put_of table) (filter test (row ∷ [])) ++ map (put_of table) (filter test rows)
+pub front_more : (table : List ℕ) (test : CopiedRow → Bool) (row : CopiedRow) (rows : List CopiedRow) → map (copied_put table) (filter test (row ∷ rows)) ≡ map (copied_put table) (filter test (row ∷ [])) ++ map (copied_put table) (filter test rows)
 front_more table test row rows = by (test row)
   where
-    by : (b : Bool) → map (put_of table) (cond b (row ∷ filter test rows) (filter test rows)) ≡ map (put_of table) (cond b (row ∷ []) []) ++ map (put_of table) (filter test rows)
+    by : (b : Bool) → map (copied_put table) (cond b (row ∷ filter test rows) (filter test rows)) ≡ map (copied_put table) (cond b (row ∷ []) []) ++ map (copied_put table) (filter test rows)
     by true = refl
     by false = refl
 

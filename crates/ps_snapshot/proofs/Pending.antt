@@ -8,9 +8,9 @@ use Rattle.ps_store.specs.declared.events.Event.{Event}
 use Rattle.ps_store.specs.declared.events.Event.TheVariants.{Feed, Write}
 use Rattle.ps_store.specs.declared.fixed.Fixed.{Fixed}
 use Rattle.ps_store.specs.declared.stores.Store.{Store}
-use Rattle.ps_store.specs.Ledgers.{Ledger, fresh, timed_of, unwritten, write_next, ledger_after, ledger_of, CanCome, IsLegalFrom}
+use Rattle.ps_store.specs.Ledgers.{Ledger, fresh_ledger, timed_of, unwritten, write_next, ledger_after, ledger_of, CanCome, IsLegalFrom}
 use Rattle.ps_store.specs.Originals.{Timed, timed, timed_from}
-use Rattle.ps_store.specs.Stores.{StoreStandsFor, IsRefused, next_run}
+use Rattle.ps_store.specs.Stores.{StoreStandsFor, WriteIsRefused, next_run}
 use Rattle.ps_store.specs.declared.faults.WriteFault.TheVariants as writing
 use Rattle.ps_store.proofs.NoDeploys.{plain_push}
 use Rattle.ps_data.specs.declared.ids.OpId.{OpId}
@@ -48,7 +48,7 @@ count_more ts t = ap length (timed_more ts t) ∙ length-append (timed ts) (time
 -- ---- histories
 
 pub ledger_more : (rules : RuleSet) (history : List Event) (event : Event) → ledger_of rules (history ++ event ∷ []) ≡ ledger_after (ledger_of rules history) event
-ledger_more rules history event = fold_more ledger_after (fresh rules) history event
+ledger_more rules history event = fold_more ledger_after (fresh_ledger rules) history event
 
 could_come : (history : List Event) (l : Ledger) (event : Event) → IsLegalFrom l (history ++ event ∷ []) → CanCome (fold ledger_after l history) event
 could_come [] l event legal = legal.0
@@ -127,7 +127,7 @@ module _ (fixed : Fixed) (fed : List Transaction) (left : ℕ) (old : Store) (h 
   pub wrote_some : (limit n : ℕ) (new : Store) → 1 ≤ n → n ≡ (next_run fixed h.history limit).count → StoreStandsFor fixed new (h.history ++ Write n ∷ []) → WritesSome fixed fed left new (Ok n)
   wrote_some limit n new some count stands =
       let now : Ledger = ledger_of fixed.rules (h.history ++ Write n ∷ []) in
-      let can = could_come h.history (fresh fixed.rules) (Write n) stands.legal in
+      let can = could_come h.history (fresh_ledger fixed.rules) (Write n) stands.legal in
       let many : n ≤ length (unwritten l) = can.1 in
       let next : now ≡ fold write_next l (take n (unwritten l)) = ledger_more fixed.rules h.history (Write n) in
       let on : Follows l (fold write_next l (take n (unwritten l))) (length (take n (unwritten l))) = written_on (take n (unwritten l)) l in
@@ -152,7 +152,7 @@ module _ (fixed : Fixed) (fed : List Transaction) (left : ℕ) (old : Store) (h 
       )
 
   -- the next one is refused, and it is the first that is
-  pub too_wide : (new : Store) (table id : List ℕ) (count : ℕ) → IsRefused fixed.limits l (writing.TooWide table id count) → StoreStandsFor fixed new h.history
+  pub too_wide : (new : Store) (table id : List ℕ) (count : ℕ) → WriteIsRefused fixed.limits l (writing.TooWide table id count) → StoreStandsFor fixed new h.history
       → IsRefusedBy fixed fed (writing.TooWide table id count)
   too_wide new table id count why stands = record {
     store = new;
@@ -163,7 +163,7 @@ module _ (fixed : Fixed) (fed : List Transaction) (left : ℕ) (old : Store) (h 
     first = ap (λ (ts : List Transaction). stop_by fixed ts) (sym h.fed_are) ∙ first_stop fixed l h.able why.0 why.1 (is_too_wide count) why.2 (is_wide fixed.limits l why.0 count why.3 why.6);
   }
 
-  pub ids_full : (new : Store) (last : OpId) → IsRefused fixed.limits l (writing.OpsFull last) → StoreStandsFor fixed new h.history → IsRefusedBy fixed fed (writing.OpsFull last)
+  pub ids_full : (new : Store) (last : OpId) → WriteIsRefused fixed.limits l (writing.OpsFull last) → StoreStandsFor fixed new h.history → IsRefusedBy fixed fed (writing.OpsFull last)
   ids_full new last why stands = record {
     store = new;
     history = h.history;

@@ -9,7 +9,7 @@ use Rattle.ps_rows.specs.declared.changes.Transaction.{Transaction}
 use Rattle.ps_rows.specs.Source.{Key, key_cmp, Version, Source, after_row, after_changes, after_transactions}
 use Rattle.ps_rows.specs.Keys.{find-after_row}
 use Rattle.ps_snapshot.specs.FirstCopies.{is_changed}
-use Rattle.ps_snapshot.specs.Laws.{row_at, changed_upto}
+use Rattle.ps_snapshot.specs.Laws.{columns_at, changed_upto}
 
 -- a row, or none
 abbrev pub Found : Type 0
@@ -29,15 +29,15 @@ by_test true x y = refl
 by_test false x y = refl
 
 row_changed : (position index : ℕ) (key : Key) (row : Found) (source : Source) (q : Key)
-    → row_at (after_row position index key row source) q ≡ cond (eq_by_cmp key_cmp q key) row (row_at source q)
+    → columns_at (after_row position index key row source) q ≡ cond (eq_by_cmp key_cmp q key) row (columns_at source q)
 row_changed position index key row source q =
     let version : Option Version = option_map (λ columns. record { columns = columns; position = position; index = index }) row in
     ap (λ found. option_map (λ (v : Version). v.columns) found) (find-after_row position index key row source q)
     ∙ by_test (eq_by_cmp key_cmp q key) version (find key_cmp q source)
-    ∙ ap (λ found. cond (eq_by_cmp key_cmp q key) found (row_at source q)) (versions position index row)
+    ∙ ap (λ found. cond (eq_by_cmp key_cmp q key) found (columns_at source q)) (versions position index row)
 
 -- changes, one after another
-pub rows_changed : (position index : ℕ) (cs : List Change) (source : Source) (q : Key) → row_at (after_changes position index cs source) q ≡ row_after q cs (row_at source q)
+pub rows_changed : (position index : ℕ) (cs : List Change) (source : Source) (q : Key) → columns_at (after_changes position index cs source) q ≡ row_after q cs (columns_at source q)
 rows_changed position index [] source q = refl
 rows_changed position index (c ∷ cs) source q =
     rows_changed position (index + 1) cs (after_row position index (c.table, c.id) c.row source) q
@@ -45,20 +45,20 @@ rows_changed position index (c ∷ cs) source q =
 
 -- one transaction more
 pub upto_more : (source : Source) (ts : List Transaction) (t : Transaction) (p : ℕ) (q : Key)
-    → row_at (changed_upto source (ts ++ t ∷ []) p) q ≡ cond (nat_le t.position.0 p) (row_after q t.changes (row_at (changed_upto source ts p) q)) (row_at (changed_upto source ts p) q)
+    → columns_at (changed_upto source (ts ++ t ∷ []) p) q ≡ cond (nat_le t.position.0 p) (row_after q t.changes (columns_at (changed_upto source ts p) q)) (columns_at (changed_upto source ts p) q)
 upto_more source [] t p q = by (nat_le t.position.0 p)
   where
-    by : (b : Bool) → row_at (after_transactions (cond b (t ∷ []) []) source) q ≡ cond b (row_after q t.changes (row_at source q)) (row_at source q)
+    by : (b : Bool) → columns_at (after_transactions (cond b (t ∷ []) []) source) q ≡ cond b (row_after q t.changes (columns_at source q)) (columns_at source q)
     by true = rows_changed t.position.0 0 t.changes source q
     by false = refl
 upto_more source (u ∷ ts) t p q = by (nat_le u.position.0 p) (λ s. upto_more s ts t p q)
   where
     by : (b : Bool)
-        → ((s : Source) → row_at (changed_upto s (ts ++ t ∷ []) p) q ≡ cond (nat_le t.position.0 p) (row_after q t.changes (row_at (changed_upto s ts p) q)) (row_at (changed_upto s ts p) q))
-        → row_at (after_transactions (cond b (u ∷ filter (λ (t : Transaction). nat_le t.position.0 p) (ts ++ t ∷ [])) (filter (λ (t : Transaction). nat_le t.position.0 p) (ts ++ t ∷ []))) source) q
+        → ((s : Source) → columns_at (changed_upto s (ts ++ t ∷ []) p) q ≡ cond (nat_le t.position.0 p) (row_after q t.changes (columns_at (changed_upto s ts p) q)) (columns_at (changed_upto s ts p) q))
+        → columns_at (after_transactions (cond b (u ∷ filter (λ (t : Transaction). nat_le t.position.0 p) (ts ++ t ∷ [])) (filter (λ (t : Transaction). nat_le t.position.0 p) (ts ++ t ∷ []))) source) q
         ≡ cond (nat_le t.position.0 p)
-        (row_after q t.changes (row_at (after_transactions (cond b (u ∷ filter (λ (t : Transaction). nat_le t.position.0 p) ts) (filter (λ (t : Transaction). nat_le t.position.0 p) ts)) source) q))
-        (row_at (after_transactions (cond b (u ∷ filter (λ (t : Transaction). nat_le t.position.0 p) ts) (filter (λ (t : Transaction). nat_le t.position.0 p) ts)) source) q)
+        (row_after q t.changes (columns_at (after_transactions (cond b (u ∷ filter (λ (t : Transaction). nat_le t.position.0 p) ts) (filter (λ (t : Transaction). nat_le t.position.0 p) ts)) source) q))
+        (columns_at (after_transactions (cond b (u ∷ filter (λ (t : Transaction). nat_le t.position.0 p) ts) (filter (λ (t : Transaction). nat_le t.position.0 p) ts)) source) q)
     by true more = more (after_changes u.position.0 0 u.changes source)
     by false more = more source
 

@@ -8,7 +8,7 @@ use Rattle.ps_rows.specs.declared.changes.Transaction.{Transaction}
 use Rattle.ps_store.specs.declared.fixed.Fixed.{Fixed}
 use Rattle.ps_store.specs.declared.fixed.Limits.{Limits}
 use Rattle.ps_store.specs.Generations.{Lane}
-use Rattle.ps_store.specs.Ledgers.{Ledger, fresh, entries_after, next_ops, unwritten, write_next}
+use Rattle.ps_store.specs.Ledgers.{Ledger, fresh_ledger, entries_after, next_ops, unwritten, write_next}
 use Rattle.ps_store.specs.Originals.{Timed, timed}
 use Rattle.ps_store.specs.Runs.{refusal_of, run_from, stopped}
 use Rattle.ps_snapshot.specs.Writing.{Stop, too_wide, ids_full, stop_of, or_later, stop_in, stop_on, stop_by, written_on, IsAlike, CanBeWritten}
@@ -117,11 +117,11 @@ module _ (fixed : Fixed) (l : Ledger) (h : CanBeWritten fixed l) where
       ap (λ k. take k (timed now.fed)) written ∙ ap (λ (ts : List Transaction). take (l.written + n) (timed ts)) fed ∙ take-add l.written n (timed l.fed) in
       let on : IsAlike (fold write_next l next) (fold write_next (written_on fixed front) next) = fold_alike fixed.limits next l (written_on fixed front) h.alike in
       let same : written_on fixed (take now.written (timed now.fed)) ≡ fold write_next (written_on fixed front) next =
-      ap (λ us. written_on fixed us) ahead ∙ fold_both front next (fresh fixed.rules) in
+      ap (λ us. written_on fixed us) ahead ∙ fold_both front next (fresh_ledger fixed.rules) in
       record {
         all =
             ap (λ us. stop_on fixed us) ahead
-            ∙ stop_more fixed.limits front next (fresh fixed.rules)
+            ∙ stop_more fixed.limits front next (fresh_ledger fixed.rules)
             ∙ ap (λ s. or_later s (stop_in fixed.limits (written_on fixed front) next)) h.all
             ∙ sym (stop_in_alike fixed.limits next l (written_on fixed front) h.alike)
             ∙ none;
@@ -135,6 +135,6 @@ module _ (fixed : Fixed) (l : Ledger) (h : CanBeWritten fixed l) where
   pub first_stop : (t : Timed) (ts : List Timed) (stop : Stop) → unwritten l ≡ t ∷ ts → stop_of fixed.limits l t ≡ Some stop → stop_by fixed l.fed ≡ Some stop
   first_stop t ts stop next is =
       ap (λ us. stop_on fixed us) (sym (take-append-drop l.written (timed l.fed)) ∙ ap (λ us. front ++ us) next)
-      ∙ stop_more fixed.limits front (t ∷ ts) (fresh fixed.rules)
+      ∙ stop_more fixed.limits front (t ∷ ts) (fresh_ledger fixed.rules)
       ∙ ap (λ s. or_later s (stop_in fixed.limits (written_on fixed front) (t ∷ ts))) h.all
       ∙ ap (λ s. or_later s (stop_in fixed.limits (write_next (written_on fixed front) t) ts)) (sym (stop_alike fixed.limits l (written_on fixed front) h.alike t) ∙ is)

@@ -19,13 +19,13 @@ or_fault fault (Some x) = Ok x
 or_fault fault None = Err fault
 
 -- the fault of a change line
-abbrev pub fault_of : ChangeFault → LineFault
-fault_of (changing.LineTooLong length) = LineTooLong length
-fault_of changing.BadJson = BadJson
-fault_of changing.BadShape = BadShape
-fault_of changing.BadPosition = BadPosition
-fault_of changing.BadValue = BadValue
-fault_of changing.Memory = Memory
+abbrev pub change_fault : ChangeFault → LineFault
+change_fault (changing.LineTooLong length) = LineTooLong length
+change_fault changing.BadJson = BadJson
+change_fault changing.BadShape = BadShape
+change_fault changing.BadPosition = BadPosition
+change_fault changing.BadValue = BadValue
+change_fault changing.Memory = Memory
 
 -- the fault that a failure is to who gives a line
 abbrev pub fault_of_failure : Failure → FillFault
@@ -48,7 +48,7 @@ fault_of_line Memory = filling.Memory
 -- what a change line's reader answers
 abbrev pub of_change : {A : Type 0} → Result A ChangeFault → Result A LineFault
 of_change (Ok x) = Ok x
-of_change (Err fault) = Err (fault_of fault)
+of_change (Err fault) = Err (change_fault fault)
 
 -- what is read within a chunk: whatever is wrong there, it is a bad chunk
 abbrev pub of_chunk : {A : Type 0} → Result A ChangeFault → Result A LineFault

@@ -17,15 +17,15 @@ use Rattle.ps_snapshot.specs.declared.lines.Line.{Line}
 use Rattle.ps_snapshot.specs.Faults.{fault_of_failure}
 use Rattle.ps_snapshot.specs.FirstCopies.{FirstCopy, nothing, copy_of, AreInPlace}
 use Rattle.ps_snapshot.specs.Judging.{next_line}
-use Rattle.ps_snapshot.specs.Laws.{AreAsTheyStood, IsWhole}
-use Rattle.ps_snapshot.specs.Progress.{Holds}
+use Rattle.ps_snapshot.specs.Laws.{AreAsTheyStood, CopyIsWhole}
+use Rattle.ps_snapshot.specs.Progress.{ProgressHolds}
 use Rattle.ps_snapshot.specs.Writing.{IsPending, HasCause}
 
 -- a filling took these lines: each could come behind those before it, all that they feed is written, and nothing is committed
 pub record Fills (fixed : Fixed) (filling : Filling) (lines : List Line) : Type 0 where
   pub sound : filling.failed ≡ None
   pub written : IsPending fixed (copy_of lines).fed 0 filling.store
-  pub progress : Holds filling.progress (copy_of lines)
+  pub progress : ProgressHolds filling.progress (copy_of lines)
   pub placed : AreInPlace nothing lines
   pub head : head_of (copy_of lines).fed ≤ (copy_of lines).last
 
@@ -78,29 +78,29 @@ Accepts fixed lines new (Err fault) = (failure : Failure) × HasFailed new failu
 
 -- bytes were taken as the next line; they are refused, and nothing changes; or the filling has failed, by what the next line feeds or for being
 -- out of memory
-abbrev pub Takes : Fixed → List Line → List ℕ → Filling → Filling → Result Filled FillFault → Type 0
-Takes fixed lines bytes old new (Ok filled) =
+abbrev pub TakesCopyLine : Fixed → List Line → List ℕ → Filling → Filling → Result Filled FillFault → Type 0
+TakesCopyLine fixed lines bytes old new (Ok filled) =
     (line : Line) × (next_line (copy_of lines) bytes ≡ Ok line) × Fills fixed new (lines ++ line ∷ []) × (filled ≡ filled_of (copy_of (lines ++ line ∷ [])))
-Takes fixed lines bytes old new (Err (LineTooLong length)) = (next_line (copy_of lines) bytes ≡ Err (lines_of.LineTooLong length)) × (new ≡ old)
-Takes fixed lines bytes old new (Err BadJson) = (next_line (copy_of lines) bytes ≡ Err lines_of.BadJson) × (new ≡ old)
-Takes fixed lines bytes old new (Err BadShape) = (next_line (copy_of lines) bytes ≡ Err lines_of.BadShape) × (new ≡ old)
-Takes fixed lines bytes old new (Err BadPosition) = (next_line (copy_of lines) bytes ≡ Err lines_of.BadPosition) × (new ≡ old)
-Takes fixed lines bytes old new (Err BadValue) = (next_line (copy_of lines) bytes ≡ Err lines_of.BadValue) × (new ≡ old)
-Takes fixed lines bytes old new (Err BadChunk) = (next_line (copy_of lines) bytes ≡ Err lines_of.BadChunk) × (new ≡ old)
-Takes fixed lines bytes old new (Err (NotRising last given)) = (next_line (copy_of lines) bytes ≡ Err (lines_of.NotRising last given)) × (new ≡ old)
-Takes fixed lines bytes old new (Err (NotCovered table)) = (next_line (copy_of lines) bytes ≡ Err (lines_of.NotCovered table)) × (new ≡ old)
-Takes fixed lines bytes old new (Err (TooWide table id count)) =
+TakesCopyLine fixed lines bytes old new (Err (LineTooLong length)) = (next_line (copy_of lines) bytes ≡ Err (lines_of.LineTooLong length)) × (new ≡ old)
+TakesCopyLine fixed lines bytes old new (Err BadJson) = (next_line (copy_of lines) bytes ≡ Err lines_of.BadJson) × (new ≡ old)
+TakesCopyLine fixed lines bytes old new (Err BadShape) = (next_line (copy_of lines) bytes ≡ Err lines_of.BadShape) × (new ≡ old)
+TakesCopyLine fixed lines bytes old new (Err BadPosition) = (next_line (copy_of lines) bytes ≡ Err lines_of.BadPosition) × (new ≡ old)
+TakesCopyLine fixed lines bytes old new (Err BadValue) = (next_line (copy_of lines) bytes ≡ Err lines_of.BadValue) × (new ≡ old)
+TakesCopyLine fixed lines bytes old new (Err BadChunk) = (next_line (copy_of lines) bytes ≡ Err lines_of.BadChunk) × (new ≡ old)
+TakesCopyLine fixed lines bytes old new (Err (NotRising last given)) = (next_line (copy_of lines) bytes ≡ Err (lines_of.NotRising last given)) × (new ≡ old)
+TakesCopyLine fixed lines bytes old new (Err (NotCovered table)) = (next_line (copy_of lines) bytes ≡ Err (lines_of.NotCovered table)) × (new ≡ old)
+TakesCopyLine fixed lines bytes old new (Err (TooWide table id count)) =
     (line : Line) × (next_line (copy_of lines) bytes ≡ Ok line) × HasCause fixed (copy_of (lines ++ line ∷ [])).fed (failing.TooWide table id count)
     × HasFailed new (failing.TooWide table id count)
-Takes fixed lines bytes old new (Err (OpsFull last)) =
+TakesCopyLine fixed lines bytes old new (Err (OpsFull last)) =
     (line : Line) × (next_line (copy_of lines) bytes ≡ Ok line) × HasCause fixed (copy_of (lines ++ line ∷ [])).fed (failing.OpsFull last)
     × HasFailed new (failing.OpsFull last)
-Takes fixed lines bytes old new (Err Memory) = HasFailed new failing.Memory
+TakesCopyLine fixed lines bytes old new (Err Memory) = HasFailed new failing.Memory
 
 -- the store that a filling gives has written all that was fed, and its checkpoint is (0, 0); whatever rows stood before the first line, it has
 -- these, changed by all change lines. The filling is given back where the end was not read
 abbrev pub Finishes : Fixed → List Line → Filling → Result Store Filling → Type 0
 Finishes fixed lines old (Ok store) =
     (end : ℕ) × ((copy_of lines).end ≡ Some end) × IsPending fixed (copy_of lines).fed 0 store
-    × ((before : Source) → AreAsTheyStood before nothing lines → IsWhole before (copy_of lines))
+    × ((before : Source) → AreAsTheyStood before nothing lines → CopyIsWhole before (copy_of lines))
 Finishes fixed lines old (Err filling) = ((copy_of lines).end ≡ None) × (filling ≡ old)

@@ -37,12 +37,12 @@ nothing = record { begun = false; start = 0; tables = []; last = 0; reached = λ
 abbrev pub stands : FirstCopy → Chunk → CopiedRow → Bool
 stands copy chunk row = nat_le (copy.changed (chunk.table, row.id)) chunk.from.0
 
-abbrev pub put_of : List ℕ → CopiedRow → Change
-put_of table row = record { table = table; id = row.id; row = Some row.row }
+abbrev pub copied_put : List ℕ → CopiedRow → Change
+copied_put table row = record { table = table; id = row.id; row = Some row.row }
 
 -- a chunk's rows that were not changed past its `from` are PUT at its position, in their order
 abbrev pub puts_of : FirstCopy → Chunk → Transaction
-puts_of copy chunk = record { position = chunk.position; changes = map (put_of chunk.table) (filter (stands copy chunk) chunk.rows) }
+puts_of copy chunk = record { position = chunk.position; changes = map (copied_put chunk.table) (filter (stands copy chunk) chunk.rows) }
 
 -- ---- one more line
 

@@ -3,7 +3,7 @@ use Rattle.std.specs.Prelude.{ℕ, nat_lt, if◌then◌else◌, List, Option, So
 use Rattle.ps_snapshot.specs.Types.{Line, LineFault, BadChunk, NotRising, NotCovered}
 use Rattle.ps_snapshot.specs.Faults.{◌>>=◌}
 use Rattle.ps_snapshot.specs.FirstCopies.{FirstCopy, belongs, position_of, first_open, lacking}
-use Rattle.ps_snapshot.specs.Reading.{line_of}
+use Rattle.ps_snapshot.specs.Reading.{copy_line_of}
 
 -- a table is not covered, or none is
 abbrev pub unless_open : {A : Type 0} → Option (List ℕ) → A → Result A LineFault
@@ -26,5 +26,5 @@ judged copy line =
 -- the next line, or why bytes are none
 abbrev pub next_line : FirstCopy → List ℕ → Result Line LineFault
 next_line copy bytes = do
-  line ← line_of bytes
+  line ← copy_line_of bytes
   judged copy line

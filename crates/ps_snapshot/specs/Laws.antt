@@ -8,8 +8,8 @@ use Rattle.ps_snapshot.specs.Types.{CopiedRow, Chunk, Line, Begin, Rows, End, Ch
 use Rattle.ps_snapshot.specs.FirstCopies.{FirstCopy, nothing, after_line, copy_of, is_listed, is_above, is_within, AreInPlace}
 
 -- the columns of a row, where it is there
-abbrev pub row_at : Source → Key → Option (List Column)
-row_at source key = option_map (λ (version : Version). version.columns) (find key_cmp key source)
+abbrev pub columns_at : Source → Key → Option (List Column)
+columns_at source key = option_map (λ (version : Version). version.columns) (find key_cmp key source)
 
 -- rows changed by all transactions up to a position, in order
 abbrev pub changed_upto : Source → List Transaction → ℕ → Source
@@ -27,7 +27,7 @@ pub record IsAsItStood (before : Source) (copy : FirstCopy) (chunk : Chunk) : Ty
   pub past : chunk.from.0 ≤ position
   pub below : position < chunk.position.0
   pub rows : (id : List ℕ) → is_above chunk.after id ≡ true → is_within chunk.upto id ≡ true
-      → row_found id chunk.rows ≡ row_at (changed_upto before copy.told position) (chunk.table, id)
+      → row_found id chunk.rows ≡ columns_at (changed_upto before copy.told position) (chunk.table, id)
 
 -- each chunk is so, over the change lines before it
 abbrev pub AreAsTheyStood : Source → FirstCopy → List Line → Type 0
@@ -39,9 +39,9 @@ AreAsTheyStood before copy (Changes t ∷ lines) = AreAsTheyStood before (after_
 
 -- from the end mark on, at each position, what is fed has for the listed tables exactly the rows that stood before, changed by all change lines
 -- up to there
-abbrev pub IsWhole : Source → FirstCopy → Type 0
-IsWhole before copy = (end position : ℕ) (table id : List ℕ) → copy.end ≡ Some end → end ≤ position → is_listed copy.tables table ≡ true
-    → row_at (source_at copy.fed position) (table, id) ≡ row_at (changed_upto before copy.told position) (table, id)
+abbrev pub CopyIsWhole : Source → FirstCopy → Type 0
+CopyIsWhole before copy = (end position : ℕ) (table id : List ℕ) → copy.end ≡ Some end → end ≤ position → is_listed copy.tables table ≡ true
+    → columns_at (source_at copy.fed position) (table, id) ≡ columns_at (changed_upto before copy.told position) (table, id)
 
 abbrev pub FirstCopiesAreWhole : Type 0
-FirstCopiesAreWhole = (before : Source) (lines : List Line) → AreInPlace nothing lines → AreAsTheyStood before nothing lines → IsWhole before (copy_of lines)
+FirstCopiesAreWhole = (before : Source) (lines : List Line) → AreInPlace nothing lines → AreAsTheyStood before nothing lines → CopyIsWhole before (copy_of lines)

@@ -90,8 +90,8 @@ chunk_of d = do
   rows ← copied_rows_of list
   Ok (record { position = position; table = table; after = after; upto = upto; from = start; rows = rows })
 
-abbrev pub rows_of : Json → Result Line LineFault
-rows_of d = do
+abbrev pub chunk_line : Json → Result Line LineFault
+chunk_line d = do
   chunk ← chunk_of d
   Ok (Rows chunk)
 
@@ -104,16 +104,16 @@ end_of d = do
 -- ---- lines
 
 -- a change line
-abbrev pub changes_of : List ℕ → Result Line LineFault
-changes_of bytes = do
-  transaction ← of_change (changes.line_of bytes)
+abbrev pub change_line : List ℕ → Result Line LineFault
+change_line bytes = do
+  transaction ← of_change (changes.transaction_of_line bytes)
   Ok (Changes transaction)
 
 -- a line by its members `snapshot`, `chunk` and `snapshot_end`: a mark or a chunk has one of them, a change line none
 abbrev pub line_with : List ℕ → Option Json → Option Json → Option Json → Result Line LineFault
-line_with bytes None None None = changes_of bytes
+line_with bytes None None None = change_line bytes
 line_with bytes (Some d) None None = begin_of d
-line_with bytes None (Some d) None = rows_of d
+line_with bytes None (Some d) None = chunk_line d
 line_with bytes None None (Some d) = end_of d
 line_with bytes (Some a) (Some b) None = Err BadChunk
 line_with bytes (Some a) None (Some b) = Err BadChunk
@@ -121,7 +121,7 @@ line_with bytes None (Some a) (Some b) = Err BadChunk
 line_with bytes (Some a) (Some b) (Some c) = Err BadChunk
 
 -- the line that bytes are, whose length is judged first, and then whether they are JSON
-unfoldable pub line_of : List ℕ → Result Line LineFault
-line_of bytes = do
+unfoldable pub copy_line_of : List ℕ → Result Line LineFault
+copy_line_of bytes = do
   json ← of_change (changes.json_within bytes)
   line_with bytes (get (codes "snapshot") json) (get (codes "chunk") json) (get (codes "snapshot_end") json)

@@ -8,9 +8,9 @@ use Rattle.ps_store.specs.declared.fixed.Fixed.{Fixed}
 use Rattle.ps_store.specs.declared.fixed.Limits.{Limits}
 use Rattle.ps_store.specs.declared.stores.Store.{Store}
 use Rattle.ps_store.specs.Histories.{has_deploy}
-use Rattle.ps_store.specs.Ledgers.{Ledger, fresh, entries_after, next_ops, write_next, ledger_of}
+use Rattle.ps_store.specs.Ledgers.{Ledger, fresh_ledger, entries_after, next_ops, write_next, ledger_of}
 use Rattle.ps_store.specs.Originals.{Timed, timed}
-use Rattle.ps_store.specs.Stores.{StoreStandsFor, IsRefused}
+use Rattle.ps_store.specs.Stores.{StoreStandsFor, WriteIsRefused}
 use Rattle.ps_snapshot.specs.declared.faults.Failure.{Failure}
 use Rattle.ps_snapshot.specs.declared.faults.Failure.TheVariants.{TooWide, OpsFull, Memory}
 
@@ -36,14 +36,14 @@ stop_in limits l (t ∷ ts) = or_later (stop_of limits l t) (stop_in limits (wri
 
 -- the same from the beginning on, of changes and of all changes of transactions
 abbrev pub stop_on : Fixed → List Timed → Option Stop
-stop_on fixed changes = stop_in fixed.limits (fresh fixed.rules) changes
+stop_on fixed changes = stop_in fixed.limits (fresh_ledger fixed.rules) changes
 
 abbrev pub stop_by : Fixed → List Transaction → Option Stop
 stop_by fixed fed = stop_on fixed (timed fed)
 
 -- what is known once changes are written from the beginning on
 abbrev pub written_on : Fixed → List Timed → Ledger
-written_on fixed changes = fold write_next (fresh fixed.rules) changes
+written_on fixed changes = fold write_next (fresh_ledger fixed.rules) changes
 
 -- the generation in force and the last id are the same
 pub record IsAlike (l other : Ledger) : Type 0 where
@@ -80,7 +80,7 @@ pub record IsRefusedBy (fixed : Fixed) (fed : List Transaction) (fault : WriteFa
   pub history : List Event
   pub stands : StoreStandsFor fixed store history
   pub fed_are : (ledger_of fixed.rules history).fed ≡ fed
-  pub refused : IsRefused fixed.limits (ledger_of fixed.rules history) fault
+  pub refused : WriteIsRefused fixed.limits (ledger_of fixed.rules history) fault
   pub first : IsStop fault (stop_by fixed fed)
 
 -- why the changes of these transactions could not all be written; being out of memory says nothing
@@ -90,9 +90,9 @@ HasCause fixed fed (OpsFull last) = IsRefusedBy fixed fed (writing.OpsFull last)
 HasCause fixed fed Memory = Unit {0}
 
 -- all changes of these transactions were written, or why not
-abbrev pub Writes : Fixed → List Transaction → Store → Result (Unit {0}) Failure → Type 0
-Writes fixed fed new (Ok done) = IsPending fixed fed 0 new
-Writes fixed fed new (Err failure) = HasCause fixed fed failure
+abbrev pub WritesFed : Fixed → List Transaction → Store → Result (Unit {0}) Failure → Type 0
+WritesFed fixed fed new (Ok done) = IsPending fixed fed 0 new
+WritesFed fixed fed new (Err failure) = HasCause fixed fed failure
 
 -- some of them were written, or why not
 abbrev pub WritesSome : Fixed → List Transaction → ℕ → Store → Result ℕ Failure → Type 0

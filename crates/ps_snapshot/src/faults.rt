@@ -91,9 +91,9 @@ pub enum FillFault {
 
 impl From<ChangeFault> for LineFault {
     ghost use Rattle.std.specs.Prelude.{◌≡◌};
-    ghost use Rattle.ps_snapshot.specs.Faults.{fault_of};
+    ghost use Rattle.ps_snapshot.specs.Faults.{change_fault};
 
-    ghost from_gives = { λ fault given. given ≡ fault_of fault };
+    ghost from_gives = { λ fault given. given ≡ change_fault fault };
 
     fn from(fault: ChangeFault) -> LineFault {
         match fault {

@@ -10,12 +10,12 @@ ghost use Rattle.ps_snapshot.specs.declared.lines.Line.{Line as LineSeen};
 ghost use Rattle.ps_snapshot.specs.Faults.{Reads, fault_of_line};
 ghost use Rattle.ps_snapshot.specs.FirstCopies.{FirstCopy, nothing, copy_of, position_of, CanCome};
 ghost use Rattle.ps_snapshot.specs.Judging.{next_line};
-ghost use Rattle.ps_snapshot.specs.Progress.{Holds};
-ghost use Rattle.ps_snapshot.specs.Laws.{AreAsTheyStood, IsWhole};
-ghost use Rattle.ps_snapshot.specs.Fillings.{Fills, IsFilling, HasFailed, filled_of, AnswersAgain, Fails, Advances, Accepts, LeavesBehind, Takes, Finishes};
+ghost use Rattle.ps_snapshot.specs.Progress.{ProgressHolds};
+ghost use Rattle.ps_snapshot.specs.Laws.{AreAsTheyStood, CopyIsWhole};
+ghost use Rattle.ps_snapshot.specs.Fillings.{Fills, IsFilling, HasFailed, filled_of, AnswersAgain, Fails, Advances, Accepts, LeavesBehind, TakesCopyLine, Finishes};
 
 use crate::faults::{Failure, FillFault, LineFault};
-use crate::laws::first_copies_are_whole;
+use crate::laws;
 use crate::lines::Line;
 use crate::progress::Progress;
 use crate::readers::read_line;
@@ -65,12 +65,12 @@ impl Filling {
         // What failed answers the same.
         ensures again { (failure : FailureSeen) → HasFailed self.old failure → HasFailed self.new failure × AnswersAgain failure result }
         // Else the line is taken, or why it is not.
-        ensures taken { (fixed : Fixed) (lines : List LineSeen) → Fills fixed self.old lines → Takes fixed lines line.now self.old self.new result }
+        ensures taken { (fixed : Fixed) (lines : List LineSeen) → Fills fixed self.old lines → TakesCopyLine fixed lines line.now self.old self.new result }
         // From the end on the store has exactly the rows that stood before the first line, changed by all change lines.
         ensures whole { (fixed : Fixed) (lines : List LineSeen) (before : Source) → Fills fixed self.new lines
-            → AreAsTheyStood before nothing lines → IsWhole before (copy_of lines) }
+            → AreAsTheyStood before nothing lines → CopyIsWhole before (copy_of lines) }
     {
-        first_copies_are_whole();
+        laws::first_copies_are_whole();
         if let Some(failure) = &self.failed {
             return Err(failure.fault(alloc)?);
         }
@@ -88,7 +88,7 @@ impl Filling {
         ensures back { IfErr result (λ given. given ≡ self) }
         ensures given { (fixed : Fixed) (lines : List LineSeen) → Fills fixed self lines → Finishes fixed lines self result }
     {
-        first_copies_are_whole();
+        laws::first_copies_are_whole();
         if self.failed.is_some() || !self.progress.ended() {
             return Err(self);
         }
@@ -102,7 +102,7 @@ impl Filling {
 
     // The line that bytes are, if it may come next.
     fn read(&self, alloc: Global, bytes: &[u8]) -> Result<Line, LineFault>
-        ensures exact { (copy : FirstCopy) → Holds self.now.progress copy → Reads result (next_line copy bytes.now) }
+        ensures exact { (copy : FirstCopy) → ProgressHolds self.now.progress copy → Reads result (next_line copy bytes.now) }
         ensures low { IfOk result (λ line. (position_of line).0 ≤ greatest) }
     {
         let line = read_line(alloc, bytes)?;
@@ -123,7 +123,7 @@ impl Filling {
     }
 
     fn filled(&self) -> Filled
-        ensures { (copy : FirstCopy) → Holds self.now.progress copy → result ≡ filled_of copy }
+        ensures { (copy : FirstCopy) → ProgressHolds self.now.progress copy → result ≡ filled_of copy }
     {
         if self.progress.ended() {
             Filled::Ended

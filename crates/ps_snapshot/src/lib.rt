@@ -3,7 +3,7 @@
 
 mod faults;
 mod fillings;
-mod laws;
+pub mod laws;
 mod lines;
 mod progress;
 mod readers;
@@ -11,6 +11,5 @@ mod writing;
 
 pub use faults::{Failure, FillFault, LineFault};
 pub use fillings::{Filled, Filling};
-pub use laws::first_copies_are_whole;
 pub use lines::{Chunk, CopiedRow, Line};
 pub use readers::read_line;

@@ -5,13 +5,13 @@ ghost use Rattle.serde_json.specs.Find.{get};
 ghost use Rattle.serde_json.specs.View.{view, items_view, members_view};
 ghost use Rattle.ps_data.specs.declared.columns.Column.{Column as ColumnSeen};
 ghost use Rattle.ps_changes.specs.declared.faults.ChangeFault.{ChangeFault as ChangeFaultSeen};
-ghost use Rattle.ps_changes.specs.Members.{Reads as ReadsChange, Adds};
+ghost use Rattle.ps_changes.specs.Members.{Reads as ReadsChange, AddsMeant};
 ghost use Rattle.ps_changes.specs.Lines.{longest, value_in, column_of, columns_of};
 ghost use Rattle.ps_data.specs.Numbers.{greatest};
 ghost use Rattle.ps_snapshot.specs.Faults.{Reads, of_chunk};
 ghost use Rattle.ps_snapshot.specs.FirstCopies.{position_of};
 ghost use Rattle.ps_snapshot.specs.Types.{LineTooLong};
-ghost use Rattle.ps_snapshot.specs.Reading.{text_at, position_at, bound_at, columns_at, table_of, tables_of, begin_of, copied_row_of, copied_rows_of, chunk_of, rows_of, end_of, changes_of, line_with, line_of};
+ghost use Rattle.ps_snapshot.specs.Reading.{text_at, position_at, bound_at, columns_at, table_of, tables_of, begin_of, copied_row_of, copied_rows_of, chunk_of, chunk_line, end_of, change_line, line_with, copy_line_of};
 
 use crate::faults::LineFault;
 use crate::lines::{Chunk, CopiedRow, Line};
@@ -30,7 +30,7 @@ const LONGEST: usize = 16777216;
 /// `BadShape`, `BadPosition`, `BadValue`, as a change line does; for one with such a member `BadChunk`.
 #[tactic(auto, unfolding(crate::specs::Reading::line_of))]
 pub fn read_line(alloc: Global, bytes: &[u8]) -> Result<Line, LineFault>
-    ensures exact { Reads result (line_of bytes.now) }
+    ensures exact { Reads result (copy_line_of bytes.now) }
     ensures low { IfOk result (λ line. (position_of line).0 ≤ greatest) }
     // A line that is too long is refused before any memory is asked for.
     ensures long { longest < length bytes.now → result ≡ Err (LineTooLong (length bytes.now)) }
@@ -67,7 +67,7 @@ fn read_json_line(alloc: Global, bytes: &[u8], json: &Json) -> Result<Line, Line
 }
 
 fn read_changes(alloc: Global, bytes: &[u8]) -> Result<Line, LineFault>
-    ensures exact { Reads result (changes_of bytes.now) }
+    ensures exact { Reads result (change_line bytes.now) }
     ensures low { IfOk result (λ line. (position_of line).0 ≤ greatest) }
 {
     let transaction = ps_changes::read_line(alloc, bytes)?;
@@ -95,7 +95,7 @@ fn read_end(alloc: Global, json: &Json) -> Result<Line, LineFault>
 }
 
 fn read_rows(alloc: Global, json: &Json) -> Result<Line, LineFault>
-    ensures exact { Reads result (rows_of (view json.now)) }
+    ensures exact { Reads result (chunk_line (view json.now)) }
     ensures low { IfOk result (λ line. (position_of line).0 ≤ greatest) }
 {
     let chunk = read_chunk(alloc, json)?;
@@ -205,7 +205,7 @@ fn push_column(
     name: &str,
     json: &Json,
 ) -> Result<(), ChangeFault>
-    ensures { Adds columns.old columns.new result (column_of name.now (view json.now)) }
+    ensures { AddsMeant columns.old columns.new result (column_of name.now (view json.now)) }
 {
     if name == "id" {
         return Ok(());

@@ -5,7 +5,7 @@ ghost use Rattle.ps_rows.specs.declared.changes.Transaction.{Transaction as Tran
 ghost use Rattle.ps_store.specs.declared.fixed.Fixed.{Fixed};
 ghost use Rattle.ps_store.specs.Ledgers.{head_of};
 ghost use Rattle.ps_store.specs.Limits.{greatest};
-ghost use Rattle.ps_snapshot.specs.Writing.{IsPending, Writes, WritesSome};
+ghost use Rattle.ps_snapshot.specs.Writing.{IsPending, WritesFed, WritesSome};
 
 use crate::faults::Failure;
 use ps_data::Memory;
@@ -25,7 +25,7 @@ pub(crate) fn write(
     requires position { transaction.position.0 ≤ greatest }
     requires written { (fixed : Fixed) × (fed : List TransactionSeen) × IsPending fixed fed 0 store.old × (head_of fed < transaction.position.0) }
     ensures { (fixed : Fixed) (fed : List TransactionSeen) → IsPending fixed fed 0 store.old → head_of fed < transaction.position.0
-        → Writes fixed (fed ++ transaction ∷ []) store.new result }
+        → WritesFed fixed (fed ++ transaction ∷ []) store.new result }
 {
     let changes = transaction.changes.len();
     feed(alloc, store, transaction)?;
@@ -51,7 +51,7 @@ fn feed(alloc: Global, store: &mut Store, transaction: Transaction) -> Result<()
 // Writes all changes that are fed and not written.
 fn write_fed(alloc: Global, store: &mut Store, changes: usize) -> Result<(), Failure>
     requires { (fixed : Fixed) × (fed : List TransactionSeen) × IsPending fixed fed changes store.old }
-    ensures { (fixed : Fixed) (fed : List TransactionSeen) → IsPending fixed fed changes store.old → Writes fixed fed store.new result }
+    ensures { (fixed : Fixed) (fed : List TransactionSeen) → IsPending fixed fed changes store.old → WritesFed fixed fed store.new result }
 {
     let mut left = changes;
     'batches: while 0 < left {

@@ -20,9 +20,9 @@ use Rattle.ps_sql.specs.declared.contexts.Level.TheVariants as levels
 use Rattle.ps_sql.specs.declared.contexts.Step.{Step}
 use Rattle.ps_sql.specs.declared.contexts.Step.TheVariants as steps
 use Rattle.ps_sql.specs.Words.{same_word}
-use Rattle.ps_sql.specs.Inputs.{Input, ◌>>=◌, next, second, third, fourth, here, past, is_mark, is_keyword, name_of, plain_name_of, same_mark, refusal, named_or, expect_mark, expect_keyword, expect_name}
+use Rattle.ps_sql.specs.Inputs.{Input, ◌>>=◌, next, second, third, fourth, here, past, is_mark, is_keyword, word_name, plain_name_of, same_mark, refusal, named_or, expect_mark, expect_keyword, expect_name}
 use Rattle.ps_sql.specs.Grammar.{Reader, allows_column, allows_qualifier, column, qualified, qualified_by, bucket, bucket_by, request, request_by, request_value, request_or, token_user, token_or, dotted, quoted_name, function_of, arity, more_arguments, arguments, called, call_by, named_value, plain_name, type_by, cast, keyword_value, negative_by, bracketed, mark_value, prime_by, prime, operator_at, null_test, is_same, step_by, step, go_on, more, chain, negation, is_arithmetic, whole, expr}
-use Rattle.ps_sql.specs.Queries.{name_without_as, own_or, output_name, anywhere, name_anywhere, output_of, output, item, items, outputs, nothing_listed, begins_clause, condition, behind_semicolon, finish, table_clause, scope_of, parameters_of, data_of, parameter_query, alias_by, alias, source, data_query}
+use Rattle.ps_sql.specs.Queries.{name_without_as, own_or, output_name, anywhere, name_anywhere, output_of, output, item, items, outputs, nothing_listed, begins_clause, condition, behind_semicolon, finish, table_clause, scope_of, parameters_of, context_of_data, parameter_query, alias_by, alias, source, data_query}
 
 abbrev pub CalmFault : SqlFault → Type 0
 CalmFault (faults.BadToken at) = ⊥
@@ -60,7 +60,7 @@ calm_keyword k input = calm_if (is_keyword k (next input)) _ _ tt (calm_refusal 
 
 calm_name : (input : Input) → Calm (expect_name input)
 unfolding expect_name
-calm_name input = by_name (name_of (next input)) where
+calm_name input = by_name (word_name (next input)) where
   by_name : (o : Option (List ℕ)) → Calm (named_or (refusal input) input o)
   by_name None = calm_refusal input
   by_name (Some name) = tt
@@ -75,7 +75,7 @@ module _ (context : Context) where
 
   calm_qualified : (qualifier : List ℕ) → CalmReader (qualified context qualifier)
   unfolding qualified
-  calm_qualified qualifier input = by_both (allows_qualifier context.scope qualifier) (name_of (third input)) where
+  calm_qualified qualifier input = by_both (allows_qualifier context.scope qualifier) (word_name (third input)) where
     by_both : (allowed : Bool) (o : Option (List ℕ)) → Calm (qualified_by allowed input o)
     by_both false o = tt
     by_both true None = calm_refusal (past 2 input)
@@ -83,7 +83,7 @@ module _ (context : Context) where
 
   calm_bucket : CalmReader (bucket context)
   unfolding bucket
-  calm_bucket input = by_name (name_of (third input)) where
+  calm_bucket input = by_name (word_name (third input)) where
     by_name : (o : Option (List ℕ)) → Calm (bucket_by context.is_data input o)
     by_name None = calm_refusal (past 2 input)
     by_name (Some name) = calm_if context.is_data _ _ tt tt
@@ -283,7 +283,7 @@ calm_table input = calm_if (is_keyword keywords.From (next input)) _ _ (calm_bin
 
 calm_alias : (table : List ℕ) (input : Input) → Calm (alias table input)
 unfolding alias
-calm_alias table input = calm_if (is_keyword keywords.As (next input)) _ _ (calm_bind (expect_name (past 1 input)) _ (calm_name (past 1 input)) (λ n. tt)) (by_name (name_of (next input))) where
+calm_alias table input = calm_if (is_keyword keywords.As (next input)) _ _ (calm_bind (expect_name (past 1 input)) _ (calm_name (past 1 input)) (λ n. tt)) (by_name (word_name (next input))) where
   by_name : (o : Option (List ℕ)) → Calm (alias_by table input o)
   by_name None = tt
   by_name (Some name) = tt
@@ -305,8 +305,8 @@ parameter_calm limit input = calm_bind (expect_keyword keywords.Select input) _ 
 pub data_calm : (limit : ℕ) (input : Input) → Calm (data_query limit input)
 unfolding data_query
 data_calm limit input = calm_bind (expect_keyword keywords.Select input) _ (calm_keyword keywords.Select input)
-    (λ s. calm_bind (outputs (data_of scopes.Any) limit s) _ (calm_outputs (data_of scopes.Any) limit s)
+    (λ s. calm_bind (outputs (context_of_data scopes.Any) limit s) _ (calm_outputs (context_of_data scopes.Any) limit s)
     (λ a. calm_bind (source a.1) _ (calm_source a.1)
-    (λ t. calm_bind (outputs (data_of (scopes.Of t.0.kind)) limit s) _ (calm_outputs (data_of (scopes.Of t.0.kind)) limit s)
-    (λ l. calm_bind (condition (data_of (scopes.Of t.0.kind)) limit t.1) _ (calm_condition (data_of (scopes.Of t.0.kind)) limit t.1)
+    (λ t. calm_bind (outputs (context_of_data (scopes.Of t.0.kind)) limit s) _ (calm_outputs (context_of_data (scopes.Of t.0.kind)) limit s)
+    (λ l. calm_bind (condition (context_of_data (scopes.Of t.0.kind)) limit t.1) _ (calm_condition (context_of_data (scopes.Of t.0.kind)) limit t.1)
     (λ w. calm_bind (finish w.1) _ (calm_finish w.1) (λ r. tt))))))

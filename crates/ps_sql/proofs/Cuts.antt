@@ -8,7 +8,7 @@ use Rattle.ps_sql.specs.declared.words.Word.{Word}
 use Rattle.ps_sql.specs.declared.words.Word.TheVariants as words
 use Rattle.ps_sql.specs.declared.words.Mark.{Mark}
 use Rattle.ps_data.specs.Numbers.{greatest}
-use Rattle.ps_sql.specs.Words.{decimal_after, ends_number, is_digit, begins_name, continues_name, number_at, quoted, quoted_word, behind, marked, single_mark, longest_mark, word_at, CutsBehindAscii}
+use Rattle.ps_sql.specs.Words.{decimal_after, ends_number, is_digit, begins_name, continues_name, number_token, quoted, quoted_word, with_front, marked, single_mark, longest_mark, word_at, CutsBehindAscii}
 
 -- which way a test went
 pub chosen : {A : Type 0} (b : Bool) (x y z : A) → cond b x y ≡ z → ((b ≡ true) × (x ≡ z)) ⊎ ((b ≡ false) × (y ≡ z))
@@ -76,7 +76,7 @@ mark_cuts bytes m e = elim (longest_cut _ _ _ m e) [
 ]
 
 -- what stands behind a front was read there
-pub behind_some : (front : List ℕ) (n : ℕ) (inner : Option (List ℕ × ℕ)) (found : List ℕ × ℕ) → behind front n inner ≡ Some found
+pub behind_some : (front : List ℕ) (n : ℕ) (inner : Option (List ℕ × ℕ)) (found : List ℕ × ℕ) → with_front front n inner ≡ Some found
     → (was : List ℕ × ℕ) × (inner ≡ Some was) × (front ++ was.0 ≡ found.0) × (n + was.1 ≡ found.1)
 behind_some front n None found e = absurd (cc)
 behind_some front n (Some was) found e = (was, refl, cc, cc)
@@ -123,8 +123,8 @@ quoted_word_cuts make quote bytes found first some ascii e = quoted_word_cuts_at
         ascii = rw last (rw (rw get_or-drop at h.2) ascii);
       }
 
-pub number_cuts : (bytes : List ℕ) (found : Word × ℕ) → is_digit (get_or bytes 0 0) ≡ true → number_at bytes ≡ Some found → CutsBehindAscii bytes found.1
-unfolding number_at
+pub number_cuts : (bytes : List ℕ) (found : Word × ℕ) → is_digit (get_or bytes 0 0) ≡ true → number_token bytes ≡ Some found → CutsBehindAscii bytes found.1
+unfolding number_token
 number_cuts bytes found first e =
     let n = prefix_len is_digit bytes in let value = decimal_after 0 (take n bytes) in
     elim (chosen (leb value greatest && ends_number (drop n bytes)) (Some (words.Number (pos value), n)) None (Some found) e) [

@@ -24,7 +24,7 @@ use Rattle.ps_sql.specs.declared.contexts.Level.TheVariants as levels
 use Rattle.ps_sql.specs.declared.contexts.Step.{Step}
 use Rattle.ps_sql.specs.declared.contexts.Step.TheVariants as steps
 use Rattle.ps_sql.specs.Words.{same_word}
-use Rattle.ps_sql.specs.Inputs.{Input, ◌>>=◌, first_word, next, second, third, fourth, here, past, is_mark, is_keyword, name_of, name_in, plain_name_of, plain_name_in, refusal, same_mark, same_keyword, number_of_mark, number_of_keyword, mark_in, keyword_in, expect_mark, expect_keyword}
+use Rattle.ps_sql.specs.Inputs.{Input, ◌>>=◌, first_word, next, second, third, fourth, here, past, is_mark, is_keyword, word_name, name_in, plain_name_of, plain_name_in, refusal, same_mark, same_keyword, number_of_mark, number_of_keyword, mark_in, keyword_in, expect_mark, expect_keyword}
 use Rattle.ps_sql.specs.Grammar.{Reader, allows_column, allows_qualifier, column, qualified, qualified_by, bucket, bucket_by, request, request_by, request_or, request_value, token_user, token_or, dotted, quoted_name, function_of, arity, more_arguments, arguments, called, call_by, named_value, plain_name, type_by, cast, keyword_value, opposite, negative_by, bracketed, mark_value, prime_by, prime, operator_of_keyword, operator_of_mark, operator_by, operator_at, null_test, is_same, step_by, step, go_on, more, chain, negation, is_arithmetic, whole, expr}
 use Rattle.ps_sql.specs.Spelled.{Rule, level, negation as not_rule, primary, expression, side, is_taken, sign_of, level_of, Spells, alone, between, is_null, is_not_null, not_negated, negated, number, negative, text, null, true_word, false_word, column as column_spelled, qualified as qualified_spelled, bucket as bucket_spelled, request as request_spelled, token_user as token_user_spelled, call, cast as cast_spelled, brackets, AreArguments, first, further}
 use Rattle.ps_sql.proofs.Cuts.{chosen}
@@ -412,8 +412,8 @@ module _ (context : Context) where
       let f = front_of others w behind in
       (f.lexeme, f.others, is ∙ ap (λ xs. q ∷ dot ∷ xs) f.is, f.word)
 
-  named_word : (o : Option Word) (name : List ℕ) → name_of o ≡ Some name → (w : Word) × (o ≡ Some w) × (name_in w ≡ Some name)
-  unfolding name_of
+  named_word : (o : Option Word) (name : List ℕ) → word_name o ≡ Some name → (w : Word) × (o ≡ Some w) × (name_in w ≡ Some name)
+  unfolding word_name
   named_word None name e = absurd (cc)
   named_word (Some w) name e = (w, refl, e)
 
@@ -434,8 +434,8 @@ module _ (context : Context) where
       → name_in q.word ≡ Some qualifier → dot.word ≡ words.Mark marks.Dot → ((w : Word) → third input ≡ Some w → is_taken q.word w ≡ false)
       → qualified context qualifier input ≡ Ok (e, rest) → Consumed context primary input e rest
   unfolding qualified
-  qualified_found input e rest q dot others qualifier is named dot_is free found = by_both (allows_qualifier context.scope qualifier) refl (name_of (third input)) refl found where
-    by_both : (v : Bool) → allows_qualifier context.scope qualifier ≡ v → (o : Option (List ℕ)) → name_of (third input) ≡ o → qualified_by v input o ≡ Ok (e, rest) → Consumed context primary input e rest
+  qualified_found input e rest q dot others qualifier is named dot_is free found = by_both (allows_qualifier context.scope qualifier) refl (word_name (third input)) refl found where
+    by_both : (v : Bool) → allows_qualifier context.scope qualifier ≡ v → (o : Option (List ℕ)) → word_name (third input) ≡ o → qualified_by v input o ≡ Ok (e, rest) → Consumed context primary input e rest
     by_both false wrong o there found = absurd (cc)
     by_both true allowed None absent found = absurd (cc)
     by_both true allowed (Some name) there found =
@@ -447,8 +447,8 @@ module _ (context : Context) where
   bucket_found : (input : Input) (e : Expr) (rest : Input) (q dot : Lexeme) (others : List Lexeme) → input.left ≡ q ∷ dot ∷ others → q.word ≡ words.Name (codes "bucket")
       → dot.word ≡ words.Mark marks.Dot → bucket context input ≡ Ok (e, rest) → Consumed context primary input e rest
   unfolding bucket
-  bucket_found input e rest q dot others is named dot_is found = by_name (name_of (third input)) refl found where
-    by_name : (o : Option (List ℕ)) → name_of (third input) ≡ o → bucket_by context.is_data input o ≡ Ok (e, rest) → Consumed context primary input e rest
+  bucket_found input e rest q dot others is named dot_is found = by_name (word_name (third input)) refl found where
+    by_name : (o : Option (List ℕ)) → word_name (third input) ≡ o → bucket_by context.is_data input o ≡ Ok (e, rest) → Consumed context primary input e rest
     by_name None absent found = absurd (cc)
     by_name (Some name) there found =
         let w = named_word (third input) name there in

@@ -14,9 +14,9 @@ use Rattle.ps_sql.specs.declared.contexts.Scope.TheVariants as scopes
 use Rattle.ps_sql.specs.declared.contexts.Context.{Context}
 use Rattle.ps_sql.specs.declared.contexts.Listed.{Listed}
 use Rattle.ps_sql.specs.declared.contexts.Source.{Source}
-use Rattle.ps_sql.specs.Inputs.{Input, first_word, next, here, past, is_mark, is_keyword, name_of, name_in, refusal, named_or, expect_keyword, expect_name}
+use Rattle.ps_sql.specs.Inputs.{Input, first_word, next, here, past, is_mark, is_keyword, word_name, name_in, refusal, named_or, expect_keyword, expect_name}
 use Rattle.ps_sql.specs.Grammar.{expr}
-use Rattle.ps_sql.specs.Queries.{own_name, name_or_any, own_or, ends_without_table, output_name, name_anywhere, output_of, begins_clause, output, item, items, outputs, nothing_listed, condition, behind_semicolon, finish, table_clause, scope_of, parameters_of, data_of, parameter_query, alias_by, alias, source, data_query}
+use Rattle.ps_sql.specs.Queries.{own_name, name_or_any, own_or, ends_without_table, output_name, name_anywhere, output_of, begins_clause, output, item, items, outputs, nothing_listed, condition, behind_semicolon, finish, table_clause, scope_of, parameters_of, context_of_data, parameter_query, alias_by, alias, source, data_query}
 use Rattle.ps_sql.specs.Spelled.{expression}
 use Rattle.ps_sql.specs.SpelledQueries.{IsOutput, named, own, IsItem, star, output as output_item, AreItems, last, further, AreOutputs, no_outputs, outputs as outputs_listed, IsCondition, no_condition, filter, IsEnd, nothing, semicolon, IsTable, no_table, table, IsSource, itself, alias as alias_alone, alias_with_as, IsParameterQuery, IsDataQuery}
 use Rattle.ps_sql.proofs.Cuts.{chosen}
@@ -32,15 +32,15 @@ record Named (xs : List Lexeme) (name : List ℕ) : Type 0 where
   is : xs ≡ lexeme ∷ others
   name_is : name_in lexeme.word ≡ Some name
 
-front_name : (xs : List Lexeme) (name : List ℕ) → name_of (first_word xs) ≡ Some name → Named xs name
-unfolding name_of
+front_name : (xs : List Lexeme) (name : List ℕ) → word_name (first_word xs) ≡ Some name → Named xs name
+unfolding word_name
 front_name [] name e = absurd (cc)
 front_name (x ∷ xs) name e = record { lexeme = x; others = xs; is = refl; name_is = e }
 
 expected_name : (input : Input) (name : List ℕ) (rest : Input) → expect_name input ≡ Ok (name, rest) → (x : Lexeme) × (name_in x.word ≡ Some name) × (input.left ≡ x ∷ rest.left)
 unfolding expect_name
-expected_name input name rest found = by_name (name_of (next input)) refl found where
-  by_name : (o : Option (List ℕ)) → name_of (next input) ≡ o → named_or (refusal input) input o ≡ Ok (name, rest) → (x : Lexeme) × (name_in x.word ≡ Some name) × (input.left ≡ x ∷ rest.left)
+expected_name input name rest found = by_name (word_name (next input)) refl found where
+  by_name : (o : Option (List ℕ)) → word_name (next input) ≡ o → named_or (refusal input) input o ≡ Ok (name, rest) → (x : Lexeme) × (name_in x.word ≡ Some name) × (input.left ≡ x ∷ rest.left)
   by_name None absent found = absurd (cc)
   by_name (Some read) there found =
       let f = front_name input.left read there in
@@ -215,10 +215,10 @@ source_found input s rest found =
             left = front ∙ ap (λ xs. f.0 ∷ x.0 ∷ xs) (a.is ∙ ap (λ xs. a.lexeme ∷ xs) (sym (ap (λ xs. drop 1 xs) a.is) ∙ y.2 ∙ ap (λ r. y.0 ∷ r.left) (ok_pair n.2).1));
             is = subst (λ v. IsSource (f.0 ∷ x.0 ∷ a.lexeme ∷ y.0 ∷ []) v) (ok_pair n.2).0 (alias_with_as f.0 x.0 a.lexeme y.0 f.1 x.1 a.word y.1);
           }
-      | inr p ↦ by_alias f.0 x.0 t.0.0 t.0.1 f.1 x.1 front (name_of (next t.0.1)) refl p.1
+      | inr p ↦ by_alias f.0 x.0 t.0.0 t.0.1 f.1 x.1 front (word_name (next t.0.1)) refl p.1
     ] where
       by_alias : (from x : Lexeme) (name : List ℕ) (middle : Input) → from.word ≡ words.Keyword keywords.From → name_in x.word ≡ Some name → input.left ≡ from ∷ x ∷ middle.left
-          → (o : Option (List ℕ)) → name_of (next middle) ≡ o → alias_by name middle o ≡ Ok (s, rest) → Took IsSource input s rest
+          → (o : Option (List ℕ)) → word_name (next middle) ≡ o → alias_by name middle o ≡ Ok (s, rest) → Took IsSource input s rest
       by_alias from x name middle from_is named_is front None absent found = record {
         consumed = from ∷ x ∷ [];
         left = front ∙ ap (λ r. from ∷ x ∷ r.left) (ok_pair found).1;
@@ -237,7 +237,7 @@ unfolding ends_without_table
 settled_parameters None rest = refl
 settled_parameters (Some name) rest = refl
 
-settled_data : (kind : List ℕ) (rest : Input) → ends_without_table (data_of (scopes.Of kind)) rest ≡ false
+settled_data : (kind : List ℕ) (rest : Input) → ends_without_table (context_of_data (scopes.Of kind)) rest ≡ false
 unfolding ends_without_table
 settled_data kind rest = refl
 
@@ -278,10 +278,10 @@ unfolding data_query
 data_query_found limit input query found =
     let s = bind_ok (expect_keyword keywords.Select input) _ query found in
     let x = expected_keyword keywords.Select input s.0 s.1 in
-    let a = bind_ok (outputs (data_of scopes.Any) limit s.0) _ query s.2 in
+    let a = bind_ok (outputs (context_of_data scopes.Any) limit s.0) _ query s.2 in
     let t = bind_ok (source a.0.1) _ query a.2 in
     let b = source_found a.0.1 t.0.0 t.0.1 t.1 in
-    let context : Context = data_of (scopes.Of t.0.0.kind) in
+    let context : Context = context_of_data (scopes.Of t.0.0.kind) in
     let l = bind_ok (outputs context limit s.0) _ query t.2 in
     let o = outputs_found context limit (settled_data t.0.0.kind) s.0 l.0.0 l.0.1 l.1 in
     let same : ◌≡◌ {A = Listed × Input} a.0 l.0 = same_ok (sym a.1 ∙ outputs_any true (scopes.Of t.0.0.kind) limit s.0 l.0 l.1) in

@@ -10,17 +10,17 @@ use Rattle.ps_sql.specs.declared.words.Token.{Token}
 use Rattle.ps_sql.specs.declared.faults.SqlFault.{SqlFault}
 use Rattle.ps_sql.specs.declared.faults.SqlFault.TheVariants as faults
 use Rattle.ps_sql.specs.Answers.{AnswersTokens, Reads}
-use Rattle.ps_sql.specs.Words.{is_blank, word_at, longest_mark, single_mark}
+use Rattle.ps_sql.specs.Words.{is_space, word_at, longest_mark, single_mark}
 use Rattle.ps_sql.specs.Spellings.{IsWord}
-use Rattle.ps_sql.specs.Lexemes.{Rise, AreLexemes, none_left, blank_next, word_next, Stops, no_word, past_blank, past_word, HasNoWord, lexeme_at, AreTokens, token_of}
+use Rattle.ps_sql.specs.Lexemes.{TokensRise, AreLexemes, none_left, blank_next, word_next, Stops, no_word, past_blank, past_word, HasNoWord, lexeme_at, AreTokens, token_of}
 use Rattle.ps_sql.proofs.Cuts.{word_cuts}
 use Rattle.ps_sql.proofs.WordLaws.{word_found, word_only, eqb_same, left}
 
-pub blank_lexemes : (at : ℕ) (bytes : List ℕ) (more : List Lexeme) → is_blank (get_or bytes 0 0) ≡ true → AreLexemes (at + 1) (drop 1 bytes) more → AreLexemes at bytes more
+pub blank_lexemes : (at : ℕ) (bytes : List ℕ) (more : List Lexeme) → is_space (get_or bytes 0 0) ≡ true → AreLexemes (at + 1) (drop 1 bytes) more → AreLexemes at bytes more
 blank_lexemes at [] more blank is = absurd (cc)
 blank_lexemes at (b ∷ rest) more blank is = blank_next blank is
 
-pub blank_stops : (at : ℕ) (bytes : List ℕ) (place : ℕ) → is_blank (get_or bytes 0 0) ≡ true → Stops (at + 1) (drop 1 bytes) place → Stops at bytes place
+pub blank_stops : (at : ℕ) (bytes : List ℕ) (place : ℕ) → is_space (get_or bytes 0 0) ≡ true → Stops (at + 1) (drop 1 bytes) place → Stops at bytes place
 blank_stops at [] place blank is = absurd (cc)
 blank_stops at (b ∷ rest) place blank is = past_blank blank is
 
@@ -47,7 +47,7 @@ pub has_no_word : (bytes : List ℕ) → word_at bytes ≡ None → HasNoWord by
 has_no_word bytes e word written rest parts is =
     let some : word_at bytes ≡ Some (word, length written) = ap word_at parts ∙ word_only word written rest is in cc
 
-pub stops_here : (at : ℕ) (bytes : List ℕ) → 0 < length bytes → is_blank (get_or bytes 0 0) ≡ false → word_at bytes ≡ None → Stops at bytes at
+pub stops_here : (at : ℕ) (bytes : List ℕ) → 0 < length bytes → is_space (get_or bytes 0 0) ≡ false → word_at bytes ≡ None → Stops at bytes at
 stops_here at [] some blank e = absurd (omega arith)
 stops_here at (b ∷ rest) some blank e = no_word blank (has_no_word (b ∷ rest) e)
 
@@ -61,7 +61,7 @@ pub or_either : (a b : Bool) → (a || b) ≡ true → (a ≡ true) ⊎ (b ≡ t
 or_either true b e = inl refl
 or_either false b e = inr e
 
-blank_no_word : (b : ℕ) (rest : List ℕ) → is_blank b ≡ true → word_at (b ∷ rest) ≡ None
+blank_no_word : (b : ℕ) (rest : List ℕ) → is_space b ≡ true → word_at (b ∷ rest) ≡ None
 unfolding word_at longest_mark single_mark
 blank_no_word b rest blank = elim (or_either (b == 32 || b == 9 || b == 10) (b == 13) blank) [
   | inl p ↦ elim (or_either (b == 32 || b == 9) (b == 10) p) [
@@ -85,7 +85,7 @@ nothing : (w : Word) (a r : List ℕ) → [] ≡ a ++ r → IsWord w a r → ⊥
 unfolding word_at longest_mark single_mark
 nothing w a r e is = let read : word_at [] ≡ Some (w, length a) = ap word_at e ∙ word_only w a r is in cc
 
-no_blank : (b : ℕ) (rest : List ℕ) (w : Word) (a r : List ℕ) → is_blank b ≡ true → b ∷ rest ≡ a ++ r → IsWord w a r → ⊥
+no_blank : (b : ℕ) (rest : List ℕ) (w : Word) (a r : List ℕ) → is_space b ≡ true → b ∷ rest ≡ a ++ r → IsWord w a r → ⊥
 no_blank b rest w a r blank e is =
     let read : word_at (b ∷ rest) ≡ Some (w, length a) = ap word_at e ∙ word_only w a r is in
     let none = blank_no_word b rest blank in cc
@@ -150,24 +150,24 @@ tokens_bad text (Err (faults.Unsupported place)) answers at stops = absurd answe
 
 -- tokens rise
 
-behind : (a b end : ℕ) (ts : List Token) → a ≤ b → Rise b ts end → Rise a ts end
+behind : (a b end : ℕ) (ts : List Token) → a ≤ b → TokensRise b ts end → TokensRise a ts end
 behind a b end [] le rise = omega arith
 behind a b end (t ∷ ts) le rise = (let first : b ≤ t.from = rise.0 in omega arith, rise.1, rise.2)
 
-lexemes_rise : {at : ℕ} {bytes : List ℕ} {xs : List Lexeme} → AreLexemes at bytes xs → Rise at (map token_of xs) (at + length bytes)
+lexemes_rise : {at : ℕ} {bytes : List ℕ} {xs : List Lexeme} → AreLexemes at bytes xs → TokensRise at (map token_of xs) (at + length bytes)
 lexemes_rise none_left = omega arith
 lexemes_rise (blank_next {at = at} {b = b} {rest = rest} {lexemes = xs} blank more) =
     behind at (at + 1) (at + length (b ∷ rest)) (map token_of xs) (omega arith)
-    (subst (Rise (at + 1) (map token_of xs)) (omega arith) (lexemes_rise more))
+    (subst (TokensRise (at + 1) (map token_of xs)) (omega arith) (lexemes_rise more))
 lexemes_rise (word_next {at = at} {bytes = bytes} {lexemes = xs} word written rest cut is more) =
     let some : 0 < length written = (word_cuts bytes (word, length written) (ap word_at cut ∙ word_only word written rest is)).some in
     let size : length bytes ≡ length written + length rest = ap length cut ∙ length-append written rest in
-    (omega arith, omega arith, subst (Rise (at + length written) (map token_of xs)) (omega arith) (lexemes_rise more))
+    (omega arith, omega arith, subst (TokensRise (at + length written) (map token_of xs)) (omega arith) (lexemes_rise more))
 
-pub tokens_rise : (text : List ℕ) (r : Result (List Token) SqlFault) → AnswersTokens text r → IfOk r (λ tokens. Rise 0 tokens (length text))
+pub tokens_rise : (text : List ℕ) (r : Result (List Token) SqlFault) → AnswersTokens text r → IfOk r (λ tokens. TokensRise 0 tokens (length text))
 tokens_rise text (Ok tokens) answers =
     let size : 0 + length text ≡ length text = omega arith in
-    subst (λ ts. Rise 0 ts (length text)) (sym answers.2) (subst (Rise 0 (map token_of answers.0)) size (lexemes_rise answers.1))
+    subst (λ ts. TokensRise 0 ts (length text)) (sym answers.2) (subst (TokensRise 0 (map token_of answers.0)) size (lexemes_rise answers.1))
 tokens_rise text (Err fault) answers = tt
 
 pub ruleset laws = (tokens_only, tokens_bad, tokens_rise)

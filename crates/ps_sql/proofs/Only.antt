@@ -21,7 +21,7 @@ use Rattle.ps_sql.specs.declared.contexts.Level.{Level}
 use Rattle.ps_sql.specs.declared.contexts.Level.TheVariants as levels
 use Rattle.ps_sql.specs.declared.contexts.Step.TheVariants as steps
 use Rattle.ps_sql.specs.Words.{same_word}
-use Rattle.ps_sql.specs.Inputs.{Input, ◌>>=◌, first_word, next, second, third, fourth, here, is_mark, is_keyword, name_of, name_in, plain_name_of, plain_name_in, same_mark, same_keyword, mark_in, keyword_in, expect_mark, expect_keyword}
+use Rattle.ps_sql.specs.Inputs.{Input, ◌>>=◌, first_word, next, second, third, fourth, here, is_mark, is_keyword, word_name, name_in, plain_name_of, plain_name_in, same_mark, same_keyword, mark_in, keyword_in, expect_mark, expect_keyword}
 use Rattle.ps_sql.specs.Grammar.{Reader, allows_column, allows_qualifier, column, qualified, qualified_by, bucket, bucket_by, request, request_by, request_or, request_value, token_user, token_or, dotted, quoted_name, function_of, arity, more_arguments, arguments, called, call_by, plain_name, type_by, cast, opposite, negative_by, bracketed, mark_value, prime_by, prime, operator_by, operator_at, null_test, is_same, step_by, step, go_on, more, chain, negation, sames, operand_at, is_arithmetic, whole, expr}
 use Rattle.ps_sql.specs.Spelled.{Rule, level, negation as not_rule, primary, expression, side, is_taken, sign_of, level_of, Spells, alone, between, is_null, is_not_null, not_negated, negated, number, negative, text, null, true_word, false_word, column as column_spelled, qualified as qualified_spelled, bucket as bucket_spelled, request as request_spelled, token_user as token_user_spelled, call, cast as cast_spelled, brackets, AreArguments, first, further}
 use Rattle.ps_sql.proofs.GrammarLaws.{expr_turn}
@@ -500,7 +500,7 @@ module _ (context : Context) (limit : ℕ) (inner : Reader) where
 
   bucket_reads : (q dot x : Lexeme) (name : List ℕ) → q.word ≡ words.Name (codes "bucket") → dot.word ≡ words.Mark marks.Dot → name_in x.word ≡ Some name → context.is_data ≡ true
       → IsRead (q ∷ dot ∷ x ∷ []) (exprs.Bucket name)
-  unfolding dotted bucket name_of
+  unfolding dotted bucket word_name
   bucket_reads q dot x name word dot_is named data_query rest end = dot_reads q dot (x ∷ []) rest _ _ word dot_is
       (ap (bucket_by context.is_data (ahead (q ∷ dot ∷ x ∷ []) rest)) named ∙ test_true context.is_data _ _ data_query)
 
@@ -526,10 +526,10 @@ module _ (context : Context) (limit : ℕ) (inner : Reader) where
 
   qualified_reads : (q dot x : Lexeme) (qualifier name : List ℕ) (rest : Input) → name_in x.word ≡ Some name → allows_qualifier context.scope qualifier ≡ true
       → qualified context qualifier (ahead (q ∷ dot ∷ x ∷ []) rest) ≡ Ok (exprs.Column name, rest)
-  unfolding qualified name_of
+  unfolding qualified word_name
   qualified_reads q dot x qualifier name rest named allowed =
       let input : Input = ahead (q ∷ dot ∷ x ∷ []) rest in
-      ap (λ v. qualified_by v input (name_of (third input))) allowed ∙ ap (qualified_by true input) named
+      ap (λ v. qualified_by v input (word_name (third input))) allowed ∙ ap (qualified_by true input) named
 
   either : {A : Type 0} (b : Bool) (y z r : A) → (b ≡ true → y ≡ r) → (b ≡ false → z ≡ r) → cond b y z ≡ r
   either true y z r f g = f refl

@@ -15,9 +15,9 @@ use Rattle.ps_sql.specs.declared.contexts.Scope.TheVariants as scopes
 use Rattle.ps_sql.specs.declared.contexts.Context.{Context}
 use Rattle.ps_sql.specs.declared.contexts.Listed.{Listed}
 use Rattle.ps_sql.specs.declared.contexts.Source.{Source}
-use Rattle.ps_sql.specs.Inputs.{Input, first_word, next, here, is_mark, is_keyword, name_of, name_in, refusal, named_or, expect_keyword, expect_name}
+use Rattle.ps_sql.specs.Inputs.{Input, first_word, next, here, is_mark, is_keyword, word_name, name_in, refusal, named_or, expect_keyword, expect_name}
 use Rattle.ps_sql.specs.Grammar.{is_arithmetic, expr}
-use Rattle.ps_sql.specs.Queries.{begins_clause, name_or_any, own_or, ends_without_table, output_name, output_of, output, item, items, outputs, nothing_listed, condition, finish, table_clause, scope_of, parameters_of, data_of, parameter_query, alias_by, alias, source, data_query}
+use Rattle.ps_sql.specs.Queries.{begins_clause, name_or_any, own_or, ends_without_table, output_name, output_of, output, item, items, outputs, nothing_listed, condition, finish, table_clause, scope_of, parameters_of, context_of_data, parameter_query, alias_by, alias, source, data_query}
 use Rattle.ps_sql.specs.SpelledQueries.{IsOutput, named, own, IsItem, star, output as output_item, AreItems, last, further, AreOutputs, no_outputs, outputs as outputs_listed, IsCondition, no_condition, filter, IsEnd, nothing, semicolon, IsTable, no_table, table, IsSource, itself, alias as alias_alone, alias_with_as, IsParameterQuery, IsDataQuery}
 use Rattle.ps_sql.proofs.LexemeLaws.{or_either}
 use Rattle.ps_sql.proofs.Scopes.{outputs_any}
@@ -108,7 +108,7 @@ never_closes w e = let tests = never_clause w e in or_neither _ _ tests.0 (or_ne
 -- names
 
 name_reads : (x : Lexeme) (name : List ℕ) (rest : Input) → name_in x.word ≡ Some name → expect_name (ahead (x ∷ []) rest) ≡ Ok (name, rest)
-unfolding expect_name name_of
+unfolding expect_name word_name
 name_reads x name rest e = ap (named_or (refusal (ahead (x ∷ []) rest)) (ahead (x ∷ []) rest)) e
 
 -- outputs
@@ -200,16 +200,16 @@ record Tail (xs : List Lexeme) : Type 0 where
   closing : closes (first_word xs) ≡ true
   no_from : is_keyword keywords.From (first_word xs) ≡ false
   no_as_word : is_keyword keywords.As (first_word xs) ≡ false
-  no_name : name_of (first_word xs) ≡ None
+  no_name : word_name (first_word xs) ≡ None
 
 end_tail : (xs : List Lexeme) → IsEnd xs → Tail xs
-unfolding is_mark is_keyword name_of
+unfolding is_mark is_keyword word_name
 end_tail xs nothing = record { closing = refl; no_from = refl; no_as_word = refl; no_name = refl }
 end_tail xs (semicolon x word) = record {
   closing = ap (λ w. closes (Some w)) word;
   no_from = ap (λ w. is_keyword keywords.From (Some w)) word;
   no_as_word = ap (λ w. is_keyword keywords.As (Some w)) word;
-  no_name = ap (λ w. name_of (Some w)) word;
+  no_name = ap (λ w. word_name (Some w)) word;
 }
 
 no_where : (xs : List Lexeme) → IsEnd xs → is_keyword keywords.Where (first_word xs) ≡ false
@@ -218,13 +218,13 @@ no_where xs nothing = refl
 no_where xs (semicolon x word) = ap (λ w. is_keyword keywords.Where (Some w)) word
 
 condition_tail : (context : Context) (xs ys : List Lexeme) (o : Option Expr) → IsCondition context xs o → IsEnd ys → Tail (xs ++ ys)
-unfolding is_mark is_keyword name_of
+unfolding is_mark is_keyword word_name
 condition_tail context xs ys o no_condition end = end_tail ys end
 condition_tail context xs ys o (filter where_word word s) end = record {
   closing = ap (λ w. closes (Some w)) word;
   no_from = ap (λ w. is_keyword keywords.From (Some w)) word;
   no_as_word = ap (λ w. is_keyword keywords.As (Some w)) word;
-  no_name = ap (λ w. name_of (Some w)) word;
+  no_name = ap (λ w. word_name (Some w)) word;
 }
 
 from_closes : (x : Lexeme) → x.word ≡ words.Keyword keywords.From → closes (Some x.word) ≡ true
@@ -247,8 +247,8 @@ table_reads xs o (table {name = name} from x word name_is) rest none =
     test_true (is_keyword keywords.From (Some from.word)) _ _ (keyword_there keywords.From keywords.From from.word word)
     ∙ bind_reads (expect_name (ahead (x ∷ []) rest)) _ (name, rest) _ (name_reads x name rest name_is) refl
 
-source_reads : (xs : List Lexeme) (s : Source) → IsSource xs s → (rest : Input) → is_keyword keywords.As (next rest) ≡ false → name_of (next rest) ≡ None → source (ahead xs rest) ≡ Ok (s, rest)
-unfolding source alias name_of
+source_reads : (xs : List Lexeme) (s : Source) → IsSource xs s → (rest : Input) → is_keyword keywords.As (next rest) ≡ false → word_name (next rest) ≡ None → source (ahead xs rest) ≡ Ok (s, rest)
+unfolding source alias word_name
 source_reads xs s (itself {name = name} from x word name_is) rest no_as_behind no_name_behind =
     bind_reads (expect_keyword keywords.From (ahead (from ∷ x ∷ []) rest)) _ (ahead (x ∷ []) rest) _ (keyword_reads keywords.From from (ahead (x ∷ []) rest) word)
     (bind_reads (expect_name (ahead (x ∷ []) rest)) _ (name, rest) _ (name_reads x name rest name_is)
@@ -312,7 +312,7 @@ pub data_query_reads : (limit end : ℕ) (lexemes : List Lexeme) (query : DataQu
 unfolding data_query
 data_query_reads limit end lexemes query q small =
     let f = fits limit q.select lexemes q.listed q.from q.filtered q.ending q.parts small in
-    let known = data_of (scopes.Of query.kind) in
+    let known = context_of_data (scopes.Of query.kind) in
     let tail = condition_tail known q.filtered q.ending query.condition q.condition_is q.ends in
     let behind = q.from ++ (q.filtered ++ q.ending) in
     let start = words_of end (q.listed ++ behind) in
@@ -321,7 +321,7 @@ data_query_reads limit end lexemes query q small =
     let found = outputs_read known limit q.listed listed q.outputs_are f.outputs_fit (words_of end behind) (source_closes q.from (q.filtered ++ q.ending) from q.source_is) in
     ap (λ xs. data_query limit (words_of end xs)) q.parts
     ∙ bind_reads (expect_keyword keywords.Select (words_of end (q.select ∷ (q.listed ++ behind)))) _ start _ (keyword_reads keywords.Select q.select start q.begins)
-    (bind_reads (outputs (data_of scopes.Any) limit start) _ (listed, words_of end behind) _ (outputs_any true (scopes.Of query.kind) limit start (listed, words_of end behind) found)
+    (bind_reads (outputs (context_of_data scopes.Any) limit start) _ (listed, words_of end behind) _ (outputs_any true (scopes.Of query.kind) limit start (listed, words_of end behind) found)
     (bind_reads (source (words_of end behind)) _ (from, words_of end (q.filtered ++ q.ending)) _ (source_reads q.from from q.source_is (words_of end (q.filtered ++ q.ending)) tail.no_as_word tail.no_name)
     (bind_reads (outputs known limit start) _ (listed, words_of end behind) _ found
     (bind_reads (condition known limit (words_of end (q.filtered ++ q.ending))) _ (query.condition, words_of end q.ending) _

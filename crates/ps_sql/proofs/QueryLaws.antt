@@ -8,7 +8,7 @@ use Rattle.ps_sql.specs.declared.contexts.Body.{Body}
 use Rattle.ps_sql.specs.declared.contexts.Scope.TheVariants as scopes
 use Rattle.ps_sql.specs.declared.words.Keyword.TheVariants as keywords
 use Rattle.ps_sql.specs.Inputs.{Input, ◌>>=◌, next, past, is_mark, refusal, expect_keyword}
-use Rattle.ps_sql.specs.Queries.{item, items, outputs, condition, finish, ending, body, parameters_of, scope_of, table_clause, data_of, source, parameter_query, data_query}
+use Rattle.ps_sql.specs.Queries.{item, items, outputs, condition, finish, ending, body, parameters_of, scope_of, table_clause, context_of_data, source, parameter_query, data_query}
 use Rattle.ps_sql.specs.SpelledQueries.{IsParameterQuery, IsDataQuery}
 use Rattle.ps_queries.specs.declared.queries.ParameterQuery.{ParameterQuery}
 use Rattle.ps_queries.specs.declared.queries.DataQuery.{DataQuery}
@@ -88,11 +88,11 @@ parameter_parts limit input = same_steps (expect_keyword keywords.Select input) 
     (λ read. record { outputs = read.listed.outputs; table = table.0; condition = read.condition }))))
 
 pub data_parts : (limit : ℕ) (input : Input) → data_query limit input ≡ (expect_keyword keywords.Select input >>= λ start.
-    outputs (data_of scopes.Any) limit start >>= λ ahead. source ahead.1 >>= λ from. body (data_of (scopes.Of from.0.kind)) limit start from.1 >>= λ read.
+    outputs (context_of_data scopes.Any) limit start >>= λ ahead. source ahead.1 >>= λ from. body (context_of_data (scopes.Of from.0.kind)) limit start from.1 >>= λ read.
     Ok (record { star = read.0.listed.star; outputs = read.0.listed.outputs; table = from.0.table; kind = from.0.kind; condition = read.0.condition }))
 unfolding data_query
-data_parts limit input = same_steps (expect_keyword keywords.Select input) _ _ (λ start. same_steps (outputs (data_of scopes.Any) limit start) _ _
-    (λ ahead. same_steps (source ahead.1) _ _ (λ from. body_then (data_of (scopes.Of from.0.kind)) limit start from.1
+data_parts limit input = same_steps (expect_keyword keywords.Select input) _ _ (λ start. same_steps (outputs (context_of_data scopes.Any) limit start) _ _
+    (λ ahead. same_steps (source ahead.1) _ _ (λ from. body_then (context_of_data (scopes.Of from.0.kind)) limit start from.1
     (λ read. record { star = read.listed.star; outputs = read.listed.outputs; table = from.0.table; kind = from.0.kind; condition = read.condition }))))
 
 pub ruleset parts = (parameter_parts, data_parts)

@@ -22,7 +22,7 @@ use Rattle.ps_sql.specs.declared.contexts.Level.{Level}
 use Rattle.ps_sql.specs.declared.contexts.Level.TheVariants as levels
 use Rattle.ps_sql.specs.declared.contexts.Step.{Step}
 use Rattle.ps_sql.specs.declared.contexts.Step.TheVariants as steps
-use Rattle.ps_sql.specs.Inputs.{Input, ◌>>=◌, next, second, third, fourth, here, past, is_mark, is_keyword, name_of, plain_name_of, same_mark, expect_mark, expect_keyword}
+use Rattle.ps_sql.specs.Inputs.{Input, ◌>>=◌, next, second, third, fourth, here, past, is_mark, is_keyword, word_name, plain_name_of, same_mark, expect_mark, expect_keyword}
 use Rattle.ps_sql.specs.Grammar.{Reader, allows_column, allows_qualifier, column, qualified, qualified_by, bucket, request, request_or, token_user, token_or, dotted, quoted_name, function_of, more_arguments, arguments, called, call_by, named_value, plain_name, type_by, cast, keyword_value, bracketed, mark_value, prime_by, prime, operator_at, is_same, step_by, step, go_on, more, chain, negation, whole, expr}
 use Rattle.ps_sql.specs.Queries.{own_name, name_or_any, own_or, ends_without_table, output_name, name_anywhere, output_of, output, item, items, outputs, nothing_listed, begins_clause}
 
@@ -60,7 +60,7 @@ module _ (is_data : Bool) (scope : Scope) where
 
   qualified_any : (qualifier : List ℕ) → Follows (qualified known qualifier) (qualified any qualifier)
   unfolding Follows known any qualified
-  qualified_any qualifier input x e = by_both (allows_qualifier scope qualifier) (name_of (third input)) e where
+  qualified_any qualifier input x e = by_both (allows_qualifier scope qualifier) (word_name (third input)) e where
     by_both : (v : Bool) (o : Option (List ℕ)) → qualified_by v input o ≡ Ok x → qualified_by true input o ≡ Ok x
     by_both true o e = e
     by_both false o e = absurd (cc)

@@ -11,7 +11,7 @@ use Rattle.ps_sql.specs.declared.words.Keyword.{Keyword}
 use Rattle.ps_sql.specs.declared.words.Mark.{Mark}
 use Rattle.ps_sql.specs.declared.words.Mark.TheVariants as marks
 use Rattle.ps_data.specs.Numbers.{greatest}
-use Rattle.ps_sql.specs.Words.{is_digit, begins_name, continues_name, decimal_after, ends_number, named, keyword_of, name_at, number_at, word_at, quoted, quoted_word, behind, single_mark, longest_mark, marked}
+use Rattle.ps_sql.specs.Words.{is_digit, begins_name, continues_name, decimal_after, ends_number, named, keyword_of, name_at, number_token, word_at, quoted, quoted_word, with_front, single_mark, longest_mark, marked}
 use Rattle.ps_sql.specs.Spellings.{IsWord, IsName, IsNumber, IsQuoted, IsMark, ends_mark, doubled}
 use Rattle.ps_sql.proofs.Cuts.{chosen, word_cuts, first_cuts, name_cuts, number_cuts, mark_cuts, behind_some}
 use Rattle.ps_sql.proofs.Quotes.{eqb_yes, eqb_no, quoted_twice, quoted_closed, some_pair}
@@ -99,8 +99,8 @@ name_only written after is =
 
 -- numbers
 
-number_found : (bytes : List ℕ) (found : Word × ℕ) → is_digit (get_or bytes 0 0) ≡ true → number_at bytes ≡ Some found → IsWord found.0 (take found.1 bytes) (drop found.1 bytes)
-unfolding number_at
+number_found : (bytes : List ℕ) (found : Word × ℕ) → is_digit (get_or bytes 0 0) ≡ true → number_token bytes ≡ Some found → IsWord found.0 (take found.1 bytes) (drop found.1 bytes)
+unfolding number_token
 number_found bytes found first e =
     let n = prefix_len is_digit bytes in let value = decimal_after 0 (take n bytes) in
     elim (chosen (leb value greatest && ends_number (drop n bytes)) (Some (words.Number (pos value), n)) None (Some found) e) [
@@ -121,7 +121,7 @@ number_found bytes found first e =
     ]
 
 number_only : (written after : List ℕ) → IsNumber written after → word_at (written ++ after) ≡ Some (words.Number (pos (decimal_after 0 written)), length written)
-unfolding word_at number_at
+unfolding word_at number_token
 number_only written after is =
     let digit : is_digit (get_or (written ++ after) 0 0) ≡ true = ap is_digit (first_of written after is.some) ∙ first_passes is_digit written is.each is.some in
     let name : begins_name (get_or (written ++ after) 0 0) ≡ false = grind (arith, nat_tests, digit) in
@@ -134,7 +134,7 @@ number_only written after is =
 pub eqb_same : (quote b : ℕ) → eqb b quote ≡ true → quote ≡ b
 eqb_same quote b e = grind (arith, nat_tests)
 
-quoted_step : (quote b : ℕ) (rest : List ℕ) → eqb b quote ≡ false → quoted quote (b ∷ rest) ≡ behind (b ∷ []) 1 (quoted quote rest)
+quoted_step : (quote b : ℕ) (rest : List ℕ) → eqb b quote ≡ false → quoted quote (b ∷ rest) ≡ with_front (b ∷ []) 1 (quoted quote rest)
 unfolding quoted
 quoted_step quote b [] e = rw e refl
 quoted_step quote b (c ∷ rest) e = rw e refl
@@ -184,9 +184,9 @@ quoted_only quote [] after e = quoted_closed quote after (λ more same. absurd (
 quoted_only quote (b ∷ text) after e = quoted_only_at (quoted_only quote text after e) (eqb b quote) refl where
   quoted_only_at : quoted quote (doubled quote text ++ quote ∷ after) ≡ Some (text, length (doubled quote text) + 1) → (v : Bool) → eqb b quote ≡ v
       → quoted quote (cond v (quote ∷ quote ∷ doubled quote text) (b ∷ doubled quote text) ++ quote ∷ after) ≡ Some (b ∷ text, length (cond v (quote ∷ quote ∷ doubled quote text) (b ∷ doubled quote text)) + 1)
-  quoted_only_at before true same = quoted_twice quote (doubled quote text ++ quote ∷ after) ∙ ap (behind (quote ∷ []) 2) before
+  quoted_only_at before true same = quoted_twice quote (doubled quote text ++ quote ∷ after) ∙ ap (with_front (quote ∷ []) 2) before
       ∙ some_pair (ap (λ x. x ∷ text) (eqb_same quote b same)) (omega arith)
-  quoted_only_at before false same = quoted_step quote b (doubled quote text ++ quote ∷ after) same ∙ ap (behind (b ∷ []) 1) before ∙ some_pair refl (omega arith)
+  quoted_only_at before false same = quoted_step quote b (doubled quote text ++ quote ∷ after) same ∙ ap (with_front (b ∷ []) 1) before ∙ some_pair refl (omega arith)
 
 -- marks
 

@@ -22,7 +22,7 @@ use Rattle.ps_sql.specs.declared.contexts.Level.TheVariants as levels
 use Rattle.ps_sql.specs.declared.contexts.Step.{Step}
 use Rattle.ps_sql.specs.declared.contexts.Step.TheVariants as steps
 use Rattle.ps_sql.specs.Words.{same_word}
-use Rattle.ps_sql.specs.Inputs.{Input, ◌>>=◌, next, second, third, fourth, here, past, is_mark, is_keyword, name_of, plain_name_of, refusal, same_mark, same_keyword, expect_mark, expect_keyword}
+use Rattle.ps_sql.specs.Inputs.{Input, ◌>>=◌, next, second, third, fourth, here, past, is_mark, is_keyword, word_name, plain_name_of, refusal, same_mark, same_keyword, expect_mark, expect_keyword}
 
 -- what reads an expression
 abbrev pub Reader : Type 0
@@ -50,7 +50,7 @@ qualified_by true input None = Err (refusal (past 2 input))
 qualified_by true input (Some name) = Ok (exprs.Column name, past 3 input)
 
 unfoldable pub qualified : Context → List ℕ → Reader
-qualified context qualifier input = qualified_by (allows_qualifier context.scope qualifier) input (name_of (third input))
+qualified context qualifier input = qualified_by (allows_qualifier context.scope qualifier) input (word_name (third input))
 
 -- `bucket.name`, in a data query
 
@@ -59,7 +59,7 @@ bucket_by is_data input None = Err (refusal (past 2 input))
 bucket_by is_data input (Some name) = if is_data then Ok (exprs.Bucket name, past 3 input) else Err (faults.Unsupported (here input))
 
 unfoldable pub bucket : Context → Reader
-bucket context input = bucket_by context.is_data input (name_of (third input))
+bucket context input = bucket_by context.is_data input (word_name (third input))
 
 -- the asker's values, in a parameter query
 

@@ -120,9 +120,9 @@ name_in (words.Mark m) = None
 name_in (words.Text t) = None
 name_in (words.Number n) = None
 
-unfoldable pub name_of : Option Word → Option (List ℕ)
-name_of None = None
-name_of (Some word) = name_in word
+unfoldable pub word_name : Option Word → Option (List ℕ)
+word_name None = None
+word_name (Some word) = name_in word
 
 -- an unquoted name
 abbrev pub plain_name_in : Word → Option (List ℕ)
@@ -160,4 +160,4 @@ named_or fault input None = Err fault
 named_or fault input (Some name) = Ok (name, past 1 input)
 
 unfoldable pub expect_name : Input → Result (List ℕ × Input) SqlFault
-expect_name input = named_or (refusal input) input (name_of (next input))
+expect_name input = named_or (refusal input) input (word_name (next input))

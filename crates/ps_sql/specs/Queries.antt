@@ -15,7 +15,7 @@ use Rattle.ps_sql.specs.declared.contexts.Source.{Source}
 use Rattle.ps_sql.specs.declared.contexts.Body.{Body}
 use Rattle.ps_sql.specs.declared.faults.SqlFault.{SqlFault}
 use Rattle.ps_sql.specs.declared.faults.SqlFault.TheVariants as faults
-use Rattle.ps_sql.specs.Inputs.{Input, ◌>>=◌, next, here, past, is_mark, is_keyword, name_of, refusal, expect_keyword, expect_name}
+use Rattle.ps_sql.specs.Inputs.{Input, ◌>>=◌, next, here, past, is_mark, is_keyword, word_name, refusal, expect_keyword, expect_name}
 use Rattle.ps_sql.specs.Grammar.{expr}
 
 -- the name of an output without AS: a column's own, and that of the asker's user
@@ -149,7 +149,7 @@ alias_by table input (Some name) = Ok (record { table = table; kind = name }, pa
 unfoldable pub alias : List ℕ → Input → Result (Source × Input) SqlFault
 alias table input = if is_keyword keywords.As (next input)
     then (expect_name (past 1 input) >>= λ name. Ok (record { table = table; kind = name.0 }, name.1))
-    else alias_by table input (name_of (next input))
+    else alias_by table input (word_name (next input))
 
 unfoldable pub source : Input → Result (Source × Input) SqlFault
 source input = do
@@ -157,15 +157,15 @@ source input = do
   table ← expect_name from
   alias table.0 table.1
 
-abbrev pub data_of : Scope → Context
-data_of scope = record { is_data = true; scope = scope }
+abbrev pub context_of_data : Scope → Context
+context_of_data scope = record { is_data = true; scope = scope }
 
 unfoldable pub data_query : ℕ → Input → Result DataQuery SqlFault
 data_query limit input = do
   start ← expect_keyword keywords.Select input
-  ahead ← outputs (data_of scopes.Any) limit start
+  ahead ← outputs (context_of_data scopes.Any) limit start
   from ← source ahead.1
-  listed ← outputs (data_of (scopes.Of from.0.kind)) limit start
-  filter ← condition (data_of (scopes.Of from.0.kind)) limit from.1
+  listed ← outputs (context_of_data (scopes.Of from.0.kind)) limit start
+  filter ← condition (context_of_data (scopes.Of from.0.kind)) limit from.1
   rest ← finish filter.1
   Ok (record { star = listed.0.star; outputs = listed.0.outputs; table = from.0.table; kind = from.0.kind; condition = filter.0 })

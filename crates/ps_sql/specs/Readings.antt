@@ -6,7 +6,7 @@ use Rattle.ps_queries.specs.declared.queries.ParameterQuery.{ParameterQuery}
 use Rattle.ps_queries.specs.declared.queries.DataQuery.{DataQuery}
 use Rattle.ps_sql.specs.declared.faults.SqlFault.{SqlFault}
 use Rattle.ps_sql.specs.declared.faults.SqlFault.TheVariants as faults
-use Rattle.ps_sql.specs.Words.{is_blank, word_at}
+use Rattle.ps_sql.specs.Words.{is_space, word_at}
 use Rattle.ps_sql.specs.Inputs.{◌>>=◌}
 use Rattle.ps_sql.specs.Answers.{input_of}
 use Rattle.ps_sql.specs.Queries.{parameter_query, data_query}
@@ -20,7 +20,7 @@ lexemes_behind others at bytes (Some found) = others (at + found.1) (drop found.
 abbrev pub lexemes_from : ℕ → ℕ → List ℕ → Result (List Lexeme) SqlFault
 lexemes_from zero at bytes = Ok []
 lexemes_from (suc turns) at [] = Ok []
-lexemes_from (suc turns) at (b ∷ rest) = if is_blank b then lexemes_from turns (at + 1) rest else lexemes_behind (lexemes_from turns) at (b ∷ rest) (word_at (b ∷ rest))
+lexemes_from (suc turns) at (b ∷ rest) = if is_space b then lexemes_from turns (at + 1) rest else lexemes_behind (lexemes_from turns) at (b ∷ rest) (word_at (b ∷ rest))
 
 unfoldable pub lexemes_of : List ℕ → Result (List Lexeme) SqlFault
 lexemes_of text = lexemes_from (length text) 0 text

@@ -13,7 +13,7 @@ use Rattle.ps_sql.specs.declared.contexts.Context.{Context}
 use Rattle.ps_sql.specs.declared.contexts.Listed.{Listed}
 use Rattle.ps_sql.specs.declared.contexts.Source.{Source}
 use Rattle.ps_sql.specs.Inputs.{name_in}
-use Rattle.ps_sql.specs.Queries.{own_name, nothing_listed, parameters_of, data_of, scope_of}
+use Rattle.ps_sql.specs.Queries.{own_name, nothing_listed, parameters_of, context_of_data, scope_of}
 use Rattle.ps_sql.specs.Spelled.{Spells, expression}
 
 -- an output: an expression and AS and a name, or an expression with a name of its own
@@ -85,7 +85,7 @@ pub record IsDataQuery (lexemes : List Lexeme) (query : DataQuery) : Type 0 wher
   pub ending : List Lexeme
   pub parts : lexemes ≡ select ∷ (listed ++ (from ++ (filtered ++ ending)))
   pub begins : select.word ≡ words.Keyword keywords.Select
-  pub outputs_are : AreOutputs (data_of (scopes.Of query.kind)) listed (record { star = query.star; outputs = query.outputs })
+  pub outputs_are : AreOutputs (context_of_data (scopes.Of query.kind)) listed (record { star = query.star; outputs = query.outputs })
   pub source_is : IsSource from (record { table = query.table; kind = query.kind })
-  pub condition_is : IsCondition (data_of (scopes.Of query.kind)) filtered query.condition
+  pub condition_is : IsCondition (context_of_data (scopes.Of query.kind)) filtered query.condition
   pub ends : IsEnd ending

@@ -25,8 +25,8 @@ abbrev pub continues_name : ℕ → Bool
 continues_name b = begins_name b || is_digit b
 
 -- a space, a tab, a line feed or a carriage return
-abbrev pub is_blank : ℕ → Bool
-is_blank b = ((b == 32 || b == 9) || b == 10) || b == 13
+abbrev pub is_space : ℕ → Bool
+is_space b = ((b == 32 || b == 9) || b == 10) || b == 13
 
 -- two words are one but for the case of their letters
 abbrev pub same_word : List ℕ → List ℕ → Bool
@@ -80,22 +80,22 @@ decimal_after value (digit ∷ digits) = decimal_after (value * 10 + (digit - 48
 abbrev pub ends_number : List ℕ → Bool
 ends_number after = not (begins_name (slice_index after 0) || (slice_index after 0 == 46 && is_digit (slice_index after 1)))
 
-unfoldable pub number_at : List ℕ → Option (Word × ℕ)
-number_at bytes = let n = prefix_len is_digit bytes in let value = decimal_after 0 (take n bytes) in
+unfoldable pub number_token : List ℕ → Option (Word × ℕ)
+number_token bytes = let n = prefix_len is_digit bytes in let value = decimal_after 0 (take n bytes) in
     if nat_le value greatest && ends_number (drop n bytes) then Some (words.Number (pos value), n) else None
 
 -- what a front of a text adds to what is read behind it
-abbrev pub behind : List ℕ → ℕ → Option (List ℕ × ℕ) → Option (List ℕ × ℕ)
-behind front count None = None
-behind front count (Some found) = Some (front ++ found.0, count + found.1)
+abbrev pub with_front : List ℕ → ℕ → Option (List ℕ × ℕ) → Option (List ℕ × ℕ)
+with_front front count None = None
+with_front front count (Some found) = Some (front ++ found.0, count + found.1)
 
 -- behind an opening quote: the text up to the quote that closes it, and the bytes up to there; two quotes stand for one
 unfoldable pub quoted : ℕ → List ℕ → Option (List ℕ × ℕ)
 quoted quote [] = None
 quoted quote (b ∷ []) = if b == quote then Some ([], 1) else None
 quoted quote (b ∷ c ∷ rest) = if b == quote
-    then (if c == quote then behind (quote ∷ []) 2 (quoted quote rest) else Some ([], 1))
-    else behind (b ∷ []) 1 (quoted quote (c ∷ rest))
+    then (if c == quote then with_front (quote ∷ []) 2 (quoted quote rest) else Some ([], 1))
+    else with_front (b ∷ []) 1 (quoted quote (c ∷ rest))
 
 abbrev pub quoted_word : (List ℕ → Word) → Option (List ℕ × ℕ) → Option (Word × ℕ)
 quoted_word make None = None
@@ -134,7 +134,7 @@ name_at bytes = let n = prefix_len continues_name bytes in Some (named (take n b
 unfoldable pub word_at : List ℕ → Option (Word × ℕ)
 word_at bytes = let b = slice_index bytes 0 in
     if begins_name b then name_at bytes
-    else (if is_digit b then number_at bytes
+    else (if is_digit b then number_token bytes
     else (if b == 34 then quoted_word words.Quoted (quoted 34 (drop 1 bytes))
     else (if b == 39 then quoted_word words.Text (quoted 39 (drop 1 bytes))
     else marked (longest_mark b (slice_index bytes 1) (slice_index bytes 2)))))

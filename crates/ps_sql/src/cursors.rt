@@ -23,7 +23,7 @@ impl<'a> Cursor<'a> {
     ghost use Rattle.std.specs.Prelude.{◌≡◌, ◌<◌, drop, not, is_some};
     ghost use Rattle.std.specs.Option.{option_copied};
     ghost use Rattle.ps_sql.specs.Answers.{ReadsOn, StepsOn};
-    ghost use Rattle.ps_sql.specs.Inputs.{Input, first_word, next, here, past, is_mark, is_keyword, name_of, plain_name_of, refusal, expect_mark, expect_keyword, expect_name};
+    ghost use Rattle.ps_sql.specs.Inputs.{Input, first_word, next, here, past, is_mark, is_keyword, word_name, plain_name_of, refusal, expect_mark, expect_keyword, expect_name};
 
     /// All of a text's words.
     pub fn new(left: &'a [Lexeme], end: u32) -> Cursor<'a>
@@ -93,7 +93,7 @@ impl<'a> Cursor<'a> {
 
     /// The name at a place, quoted or not.
     pub fn name(&self, place: usize) -> Option<&Text>
-        ensures { option_copied result ≡ name_of (first_word (drop place self.now.left)) }
+        ensures { option_copied result ≡ word_name (first_word (drop place self.now.left)) }
     {
         name_of_word(self.word(place))
     }
@@ -182,7 +182,7 @@ impl<'a> Cursor<'a> {
 
 ghost use Rattle.std.specs.Prelude.{◌≡◌};
 ghost use Rattle.std.specs.Option.{option_copied};
-ghost use Rattle.ps_sql.specs.Inputs.{is_mark, is_keyword, name_of, plain_name_of};
+ghost use Rattle.ps_sql.specs.Inputs.{is_mark, is_keyword, word_name, plain_name_of};
 
 /// Whether a word is the mark.
 #[tactic(auto, unfolding(crate::specs::Inputs::is_mark))]
@@ -209,7 +209,7 @@ fn is_keyword_word(word: Option<&Word>, keyword: Keyword) -> bool
 /// The name that a word is, quoted or not.
 #[tactic(auto, unfolding(crate::specs::Inputs::name_of))]
 fn name_of_word(word: Option<&Word>) -> Option<&Text>
-    ensures { option_copied result ≡ name_of (option_copied word.entry) }
+    ensures { option_copied result ≡ word_name (option_copied word.entry) }
 {
     match word {
         Some(Word::Name(name)) | Some(Word::Quoted(name)) => Some(name),

@@ -1,7 +1,7 @@
 ghost use Rattle.std.specs.Prelude.{◌≡◌, ℕ, ◌<◌, List, length, IfOk, map};
 ghost use Rattle.ps_sql.specs.declared.words.Token.{Token};
 ghost use Rattle.ps_sql.specs.Answers.{AnswersLexemes, AnswersTokens, Reads};
-ghost use Rattle.ps_sql.specs.Lexemes.{AreTokens, Rise, Stops, token_of};
+ghost use Rattle.ps_sql.specs.Lexemes.{AreTokens, TokensRise, Stops, token_of};
 
 use crate::SqlFault;
 use crate::scans::{byte_at, cut, front_word, is_blank_byte};
@@ -69,7 +69,7 @@ pub fn tokens(alloc: Global, text: &Text) -> Result<Items<Token>, SqlFault>
     requires { length text.now < 4294967295 }
     // What is read is written so, and what stops the reading is no token.
     ensures found { AnswersTokens text.now result }
-    ensures rise { IfOk result (λ tokens. Rise 0 tokens (length text.now)) }
+    ensures rise { IfOk result (λ tokens. TokensRise 0 tokens (length text.now)) }
     // What is written so is read, unless memory runs out.
     ensures only { (tokens : List Token) → AreTokens text.now tokens → Reads result (Ok tokens) }
     // Where a place begins no token, the reading stops there, unless memory runs out.

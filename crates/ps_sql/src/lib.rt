@@ -5,7 +5,7 @@ mod contexts;
 mod cursors;
 mod faults;
 mod grammars;
-mod laws;
+pub mod laws;
 mod lexemes;
 mod primes;
 mod readers;
@@ -13,7 +13,6 @@ mod scans;
 mod words;
 
 pub use faults::SqlFault;
-pub use laws::queries_speak_as_they_may;
 pub use lexemes::tokens;
 pub use ps_queries::{
     DataQuery, Expr, Function, Operator, Output, ParameterQuery, Subject, same_for_every_asker,

@@ -5,7 +5,7 @@ ghost use Rattle.ps_sql.specs.SpelledQueries.{IsDataQuery, IsParameterQuery};
 ghost use Rattle.ps_sql.specs.Inputs.{next};
 ghost use Rattle.ps_sql.specs.Lexemes.{AreLexemes, Stops};
 ghost use Rattle.ps_sql.specs.Readings.{parameter_query_of, data_query_of};
-ghost use Rattle.ps_sql.specs.Queries.{alias, begins_clause, body, condition, data_of, data_query, ending, ends_without_table, finish, item, items, name_anywhere, nothing_listed, output, output_name, outputs, own_name, parameter_query, parameters_of, scope_of, source, table_clause};
+ghost use Rattle.ps_sql.specs.Queries.{alias, begins_clause, body, condition, context_of_data, data_query, ending, ends_without_table, finish, item, items, name_anywhere, nothing_listed, output, output_name, outputs, own_name, parameter_query, parameters_of, scope_of, source, table_clause};
 
 use crate::contexts::{Body, Context, Listed, Scope, Source};
 use crate::cursors::Cursor;
@@ -360,7 +360,7 @@ fn parameter_query(
 
 /// What a data query's columns may be.
 fn data_context(alloc: Global, kind: &Text) -> Result<Context, Memory>
-    ensures { IfOk result (λ context. context ≡ data_of (Scope.Of kind.now)) }
+    ensures { IfOk result (λ context. context ≡ context_of_data (Scope.Of kind.now)) }
 {
     Ok(Context {
         is_data: true,
@@ -376,7 +376,7 @@ fn data_body(
     again: &mut Cursor<'_>,
     cursor: &mut Cursor<'_>,
 ) -> Result<Body, SqlFault>
-    ensures { ReadsOn result cursor.new (body (data_of (Scope.Of kind.now)) limit again.old cursor.old) }
+    ensures { ReadsOn result cursor.new (body (context_of_data (Scope.Of kind.now)) limit again.old cursor.old) }
 {
     let context = data_context(alloc, kind)?;
     body(alloc, &context, limit, again, cursor)

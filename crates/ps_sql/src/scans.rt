@@ -2,14 +2,14 @@ ghost use Rattle.std.specs.Prelude.{◌≡◌, true, ◌+◌, ◌-◌, ◌<◌, 
 ghost use Rattle.std.specs.List.{prefix_len};
 ghost use Rattle.ps_sql.specs.declared.words.Word.TheVariants as words;
 ghost use Rattle.ps_data.specs.Numbers.{greatest};
-ghost use Rattle.ps_sql.specs.Words.{CutsBehindAscii, name_at, begins_name, continues_name, decimal_after, ends_number, is_blank, is_digit, is_left_out, clause_word, operator_word, value_word, keyword_of, longest_mark, number_at, quoted, same_word, single_mark, word_at};
+ghost use Rattle.ps_sql.specs.Words.{CutsBehindAscii, name_at, begins_name, continues_name, decimal_after, ends_number, is_space, is_digit, is_left_out, clause_word, operator_word, value_word, keyword_of, longest_mark, number_token, quoted, same_word, single_mark, word_at};
 
 use crate::words::{Keyword, Mark, Word};
 use ps_data::{GREATEST, Memory, Text};
 use std::alloc::Global;
 
 pub fn is_blank_byte(b: u8) -> bool
-    ensures { result ≡ is_blank b }
+    ensures { result ≡ is_space b }
 {
     b == b' ' || b == b'\t' || b == b'\n' || b == b'\r'
 }
@@ -252,7 +252,7 @@ fn decimal_value(digits: &[u8]) -> Option<u64>
 /// The number at the front, and its length. The first byte is a digit.
 #[tactic(auto, unfolding(crate::specs::Words::number_at))]
 fn number(bytes: &[u8]) -> Option<(i64, usize)>
-    ensures { option_map (λ found. (words.Number found.0, found.1)) result ≡ number_at bytes.now }
+    ensures { option_map (λ found. (words.Number found.0, found.1)) result ≡ number_token bytes.now }
 {
     let count = digits_length(bytes);
     let (digits, after) = bytes.split_at(count);

@@ -7,7 +7,7 @@ use Rattle.serde_json.specs.View.{view, items_view}
 use Rattle.serde_json.specs.declared.value.Value.{Value as Json}
 use Rattle.ps_data.specs.declared.values.Value.{Value}
 use Rattle.ps_data.specs.Values.{equal_sql}
-use Rattle.ps_data.specs.Conversions.{value_of as json_value}
+use Rattle.ps_data.specs.Conversions.{json_value as json_value}
 use Rattle.ps_queries.specs.Meaning.{is_true, any_equals}
 use Rattle.ps_sql_eval.specs.Evaluated.{values_of_items}
 use Rattle.ps_sql_eval.proofs.Floats.{left, right}

@@ -3,7 +3,7 @@ ghost use Rattle.serde_json.specs.Find.{as_array};
 ghost use Rattle.ps_sql_eval.specs.Evaluated.{json_in};
 ghost use Rattle.serde_json.specs.View.{view, items_view};
 ghost use Rattle.serde_json.specs.Written.{has_float, items_have_float};
-ghost use Rattle.ps_data.specs.Conversions.{value_of as value_of_data};
+ghost use Rattle.ps_data.specs.Conversions.{json_value as value_of_data};
 ghost use Rattle.ps_queries.specs.Meaning.{any_equals as any_equals_of, array_of, within_items as within_items_of, member_at, member_of, member_text, member_value};
 
 use crate::truths::bool_value;

@@ -2,7 +2,7 @@ ghost use Rattle.std.specs.Prelude.{◌≡◌, ◌≤◌, ◌^◌, ◌++◌, pos
 ghost use Rattle.std.specs.Str.{chars};
 ghost use Rattle.ps_data.specs.declared.values.Value.TheVariants as values;
 ghost use Rattle.std.specs.Char.{to_ascii_uppercase, to_ascii_lowercase};
-ghost use Rattle.ps_queries.specs.Meaning.{text_of as text_in, text_value, joined, length_value, type_text};
+ghost use Rattle.ps_queries.specs.Meaning.{text_of as text_in, text_value, joined_texts, length_value, type_text};
 
 use ps_data::{Memory, Text, Value};
 use ps_values::decimal;
@@ -40,7 +40,7 @@ fn behind(alloc: Global, front: Text, back: &Text) -> Result<Text, Memory>
 
 /// `a || b`
 pub(crate) fn join(alloc: Global, a: Value, b: Value) -> Result<Value, Memory>
-    ensures { IfOk result (λ value. value ≡ joined (text_in a) (text_in b)) }
+    ensures { IfOk result (λ value. value ≡ joined_texts (text_in a) (text_in b)) }
 {
     let Some(front) = text_of(alloc, a)? else {
         return Ok(Value::Null);

@@ -1,6 +1,6 @@
 ghost use Rattle.std.specs.Prelude.{◌≡◌, not, ◌||◌, if◌then◌else◌, Option, Some, None};
 ghost use Rattle.ps_data.specs.Values.{compare_values, is_null};
-ghost use Rattle.ps_queries.specs.Meaning.{least as least_of, greatest as greatest_of, opposite_truth, truth_value as value_of_truth, bool_value as value_of_bool, is_less, is_greater, ordered};
+ghost use Rattle.ps_queries.specs.Meaning.{least as least_of, greatest_truth as greatest_of, opposite_truth, truth_value as value_of_truth, bool_value as value_of_bool, is_less, is_greater, ordered};
 
 use ps_data::{Truth, Value};
 use ps_values::compare;

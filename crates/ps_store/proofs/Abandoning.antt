@@ -14,7 +14,7 @@ use Rattle.ps_store.specs.Generations.{Coming, Abandoned}
 use Rattle.ps_store.specs.Ledgers.{Ledger, head_of, unwritten, drop_coming, ledger_of}
 use Rattle.ps_store.specs.Limits.{greatest}
 use Rattle.ps_store.specs.StoreGenerations.{StandsIn, HasAbandoned, HavePlaces, IsBuilding, IsNoted}
-use Rattle.ps_store.specs.Stores.{IsKept, Stands, StoreStandsFor}
+use Rattle.ps_store.specs.Stores.{IsKept, StandsForLedger, StoreStandsFor}
 use Rattle.ps_store.proofs.Coming.{stands_event}
 use Rattle.ps_store.proofs.EndingsNoted.{noted_is, not_built}
 use Rattle.ps_store.proofs.Going.{IsWell, ComesWell, done_of, well_history}
@@ -96,7 +96,7 @@ module _ (fixed : Fixed) (old : Store) (history : List Event) (h : StoreStandsFo
     low : coming.lane.number ≤ greatest
     low = omega (arith, comes.1, well.begun_low)
 
-    stands_dropped : Stands (record old { generations = new }) m
+    stands_dropped : StandsForLedger (record old { generations = new }) m
     stands_dropped = record {
       rules = h.stands.rules ∙ ap (λ (o : Option Fixed). (unwrap_or o old.fixed).rules) (sym a.by);
       by_limits = ap (λ (o : Option Fixed). (unwrap_or o old.fixed).limits) a.by ∙ h.stands.by_limits;
@@ -132,5 +132,5 @@ module _ (fixed : Fixed) (old : Store) (history : List Event) (h : StoreStandsFo
     abandon_done = (
       number_is built a.was,
       stands_event fixed old (record old { generations = new }) history Abandon h refl (subst IsSome (sym b.is) refl)
-          (subst (λ (o : Option Coming). Stands (record old { generations = new }) (drop_coming o l)) (sym b.is) stands_dropped),
+          (subst (λ (o : Option Coming). StandsForLedger (record old { generations = new }) (drop_coming o l)) (sym b.is) stands_dropped),
     )

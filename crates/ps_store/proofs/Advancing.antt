@@ -14,7 +14,7 @@ use Rattle.ps_store.specs.Noting.{noted, row_noted, with_note}
 use Rattle.ps_store.specs.Originals.{Timed, key_of}
 use Rattle.ps_store.specs.Rows.{has_place}
 use Rattle.ps_store.specs.Reach.{Reached, settled_from, settled}
-use Rattle.ps_store.specs.Tails.{repeated, positions_of, timed_positions, IsSettled, Tied, NotFalling, Ascend, EndsRise, last_end, HasPlaces, AreRowsOf, reach_after, notes_after}
+use Rattle.ps_store.specs.Tails.{repeated, end_positions, timed_positions, IsSettled, Tied, NotFalling, Ascend, EndsRise, last_end, HasPlaces, AreRowsOf, reach_after, notes_after}
 use Rattle.ps_store.proofs.Sources.{same_with}
 
 pub drop_tail : (n : ℕ) (xs ys : List ℕ) (y : ℕ) → drop n xs ≡ y ∷ ys → (n < length xs) × (drop (suc n) xs ≡ ys)
@@ -39,28 +39,28 @@ lt_from : (a b : ℕ) → nat_le a b ≡ false → b < a
 lt_from a b h = grind (arith, nat_tests)
 
 -- what is settled speaks of the same changes
-settled_positions : (last p op over : ℕ) (ends : List End) → drop (settled_from last p op over ends).over (positions_of (settled_from last p op over ends).left) ≡ drop over (positions_of ends)
+settled_positions : (last p op over : ℕ) (ends : List End) → drop (settled_from last p op over ends).over (end_positions (settled_from last p op over ends).left) ≡ drop over (end_positions ends)
 settled_positions last p op over [] = refl
 settled_positions last p op over (e ∷ es) = by (nat_le e.changes over) refl (settled_positions last e.position.0 last (over - e.changes) es)
   where
     by : (b : Bool) → nat_le e.changes over ≡ b
-        → drop (settled_from last e.position.0 last (over - e.changes) es).over (positions_of (settled_from last e.position.0 last (over - e.changes) es).left) ≡ drop (over - e.changes) (positions_of es)
-        → let s : Reached = if b then settled_from last e.position.0 last (over - e.changes) es else record { position = p; op = op; over = over; left = e ∷ es } in drop s.over (positions_of s.left) ≡ drop over (positions_of (e ∷ es))
-    by true h rest = rest ∙ sym (drop_repeated e.changes over e.position.0 (positions_of es) (le_from e.changes over h))
+        → drop (settled_from last e.position.0 last (over - e.changes) es).over (end_positions (settled_from last e.position.0 last (over - e.changes) es).left) ≡ drop (over - e.changes) (end_positions es)
+        → let s : Reached = if b then settled_from last e.position.0 last (over - e.changes) es else record { position = p; op = op; over = over; left = e ∷ es } in drop s.over (end_positions s.left) ≡ drop over (end_positions (e ∷ es))
+    by true h rest = rest ∙ sym (drop_repeated e.changes over e.position.0 (end_positions es) (le_from e.changes over h))
     by false h rest = refl
 
-settled_is : (last p op over : ℕ) (ends : List End) → over ≤ length (positions_of ends) → IsSettled (settled_from last p op over ends).over (settled_from last p op over ends).left
+settled_is : (last p op over : ℕ) (ends : List End) → over ≤ length (end_positions ends) → IsSettled (settled_from last p op over ends).over (settled_from last p op over ends).left
 settled_is last p op over [] h = omega arith
 settled_is last p op over (e ∷ es) h = by (nat_le e.changes over) refl (λ k. settled_is last e.position.0 last (over - e.changes) es k)
   where
     by : (b : Bool) → nat_le e.changes over ≡ b
-        → (over - e.changes ≤ length (positions_of es) → IsSettled (settled_from last e.position.0 last (over - e.changes) es).over (settled_from last e.position.0 last (over - e.changes) es).left)
+        → (over - e.changes ≤ length (end_positions es) → IsSettled (settled_from last e.position.0 last (over - e.changes) es).over (settled_from last e.position.0 last (over - e.changes) es).left)
         → let s : Reached = if b then settled_from last e.position.0 last (over - e.changes) es else record { position = p; op = op; over = over; left = e ∷ es } in IsSettled s.over s.left
-    by true t rest = rest (omega (arith, h, length_repeated e.changes e.position.0 (positions_of es), le_from e.changes over t))
+    by true t rest = rest (omega (arith, h, length_repeated e.changes e.position.0 (end_positions es), le_from e.changes over t))
     by false f rest = lt_from e.changes over f
 
 -- what is settled stands for the same changes
-pub tied_settled : (changes : List Timed) (r : Reached) (last : ℕ) → timed_positions changes ≡ drop r.over (positions_of r.left) → r.over ≤ length (positions_of r.left) → Tied changes (settled last r)
+pub tied_settled : (changes : List Timed) (r : Reached) (last : ℕ) → timed_positions changes ≡ drop r.over (end_positions r.left) → r.over ≤ length (end_positions r.left) → Tied changes (settled last r)
 tied_settled changes r last same within = record {
   positions = same ∙ sym (settled_positions last r.position r.op r.over r.left);
   settled = settled_is last r.position r.op r.over r.left within;
@@ -68,9 +68,9 @@ tied_settled changes r last same within = record {
 
 pub tied_next : (changes rest : List Timed) (t : Timed) (r : Reached) (last : ℕ) → changes ≡ t ∷ rest → Tied changes r → Tied rest (settled last (record r { over = r.over + 1 }))
 tied_next changes rest t r last is h =
-    let at : drop r.over (positions_of r.left) ≡ t.position ∷ timed_positions rest = sym h.positions ∙ ap timed_positions is in
-    let d = drop_tail r.over (positions_of r.left) (timed_positions rest) t.position at in
-    tied_settled rest (record r { over = r.over + 1 }) last (sym d.1 ∙ ap (λ k. drop k (positions_of r.left)) (sym (add-one r.over))) (omega (arith, d.0))
+    let at : drop r.over (end_positions r.left) ≡ t.position ∷ timed_positions rest = sym h.positions ∙ ap timed_positions is in
+    let d = drop_tail r.over (end_positions r.left) (timed_positions rest) t.position at in
+    tied_settled rest (record r { over = r.over + 1 }) last (sym d.1 ∙ ap (λ k. drop k (end_positions r.left)) (sym (add-one r.over))) (omega (arith, d.0))
 
 -- a change waits
 pub places_along : (ts : List Timed) (old new : Rows) → ((q : Key) → has_place new q ≡ has_place old q) → HasPlaces old ts → HasPlaces new ts

@@ -26,7 +26,7 @@ use Rattle.ps_store.specs.Plans.{IsStart, IsRun}
 use Rattle.ps_store.specs.Reach.{Reached, reached}
 use Rattle.ps_store.specs.Runs.{Run, run_from}
 use Rattle.ps_store.specs.StoreLogs.{log_at, AreRising, Continue}
-use Rattle.ps_store.specs.Stores.{Stands, StoreStandsFor, IsSame, IsFilled, IsNamed, IsRefused, next_run, Writes}
+use Rattle.ps_store.specs.Stores.{StandsForLedger, StoreStandsFor, IsSame, IsFilled, IsNamed, WriteIsRefused, next_run, WritesRun}
 use Rattle.ps_store.specs.Tails.{Tied, NotFalling, AreRowsOf}
 use Rattle.ps_store.specs.Totals.{HaveRoom}
 use Rattle.ps_store.proofs.Counting.{low_names}
@@ -119,9 +119,9 @@ module _ (fixed : Fixed) (old : Store) (history : List Event) (h : StoreStandsFo
       by None e s = absurd (cc)
       by (Some refusal) e s = omega (arith, refusal_there old.fixed.limits l limit (unwritten l) refusal (sym run_refusal ∙ e), ap length h.stands.changes)
 
-  pub refused : 1 ≤ limit → planned.count ≡ 0 → (fault : WriteFault) → IsNamed old planned.refusal fault → Writes fixed history limit old (Err fault)
+  pub refused : 1 ≤ limit → planned.count ≡ 0 → (fault : WriteFault) → IsNamed old planned.refusal fault → WritesRun fixed history limit old (Err fault)
   refused some none fault named = (
-    subst (λ (f : Fixed). IsRefused f.limits l fault) h.fixed_is
+    subst (λ (f : Fixed). WriteIsRefused f.limits l fault) h.fixed_is
         (refused_is old.fixed.limits l old h.stands.changes h.stands.last fault limit some (unwritten l) refl (sym run_count ∙ none) planned.refusal run_refusal named),
     h,
   )
@@ -150,7 +150,7 @@ module _ (fixed : Fixed) (old : Store) (history : List Event) (h : StoreStandsFo
       pub fill_newer : Continue (log_at mid.logs) plan.entered.items
       fill_newer = newer old l h.stands well entries_low limit plan w mid same
 
-      stands_mid : Stands mid l
+      stands_mid : StandsForLedger mid l
       stands_mid = stands_same old mid l same h.stands
 
       pub fill_tied : Tied mid.tail.changes.items (reached mid.tail.reach)
@@ -197,7 +197,7 @@ module _ (fixed : Fixed) (old : Store) (history : List Event) (h : StoreStandsFo
 
       pub done : (new : Store) (copies : List Timed) → IsFilled mid plan copies new → IsCopyOf mid.generations.building (take (length plan.made.items) old.tail.changes.items) copies
           → (wrote : Wrote) → (planned.count ≡ 0 → ⊥) → wrote.changes ≡ planned.count → wrote.ops ≡ length plan.entered.items → wrote.last_op ≡ plan.last
-          → Writes fixed history limit new (Ok wrote)
+          → WritesRun fixed history limit new (Ok wrote)
       done new copies filled copied wrote some changes ops last =
           let count : wrote.changes ≡ run.count = changes ∙ run_count in
           let next : (next_run fixed history limit) ≡ run = next_is in
@@ -209,7 +209,7 @@ module _ (fixed : Fixed) (old : Store) (history : List Event) (h : StoreStandsFo
           let some_there : 1 ≤ wrote.changes = not_none wrote.changes (λ e. some (sym changes ∙ e)) in
           let stands_new : StoreStandsFor fixed new (history ++ Write wrote.changes ∷ []) =
           stands_event fixed old new history (Write wrote.changes) h (filled.fixed ∙ same.fixed) (some_there, there_are, within)
-          (subst (λ (n : ℕ). Stands new (fold write_next l (take n (unwritten l)))) (sym count) (stands_written old l h.stands well entries_low limit plan w mid same new copies filled copied)) in (
+          (subst (λ (n : ℕ). StandsForLedger new (fold write_next l (take n (unwritten l)))) (sym count) (stands_written old l h.stands well entries_low limit plan w mid same new copies filled copied)) in (
             some_there,
             count ∙ ap (λ (r : Run). r.count) (sym next),
             ap (λ id. id.0) (last ∙ sym filled.last) ∙ stands_new.stands.last,
@@ -222,7 +222,7 @@ module _ (fixed : Fixed) (old : Store) (history : List Event) (h : StoreStandsFo
           not_none (suc n) e = omega arith
 
 -- what is written stays so in a store that holds the same
-pub settled : (fixed : Fixed) (history : List Event) (limit : ℕ) (old new : Store) (wrote : Wrote) → IsSame old new → Writes fixed history limit old (Ok wrote) → Writes fixed history limit new (Ok wrote)
+pub settled : (fixed : Fixed) (history : List Event) (limit : ℕ) (old new : Store) (wrote : Wrote) → IsSame old new → WritesRun fixed history limit old (Ok wrote) → WritesRun fixed history limit new (Ok wrote)
 settled fixed history limit old new wrote same writes =
     let after : List Event = history ++ Write wrote.changes ∷ [] in
     let h = writes.4 in

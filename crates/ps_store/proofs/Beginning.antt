@@ -15,7 +15,7 @@ use Rattle.ps_store.specs.declared.fixed.Limits.{Limits}
 use Rattle.ps_store.specs.declared.generations.Generations.{Generations}
 use Rattle.ps_store.specs.declared.stores.Store.{Store}
 use Rattle.ps_store.specs.Deploys.{Deploys}
-use Rattle.ps_store.specs.Generations.{mark_of, is_of, fresh_lane, queue_of, Coming}
+use Rattle.ps_store.specs.Generations.{mark_of, is_of_generation, fresh_lane, queue_of, Coming}
 use Rattle.ps_store.specs.Laws.{HaveNumbers}
 use Rattle.ps_store.specs.Ledgers.{Ledger, unwritten, head_of, ledger_after, ledger_of}
 use Rattle.ps_store.specs.Limits.{greatest}
@@ -144,7 +144,7 @@ module _ (fixed : Fixed) (old : Store) (history : List Event) (h : StoreStandsFo
         moments_ascend 0 0 (head_of l.fed) (queue_of l.force.source ++ unwritten l) lane.moments
         (all_append (head_of l.fed) (queue_of l.force.source) (unwritten l) (lane.low (head_of l.fed) fed.0).1 fed.1) (omega arith)
 
-    no_log : (bucket : List ℕ) → (b : Bool) → is_of (l.begun + 1) bucket ≡ b → [] ≡ (if b then l.log bucket else [])
+    no_log : (bucket : List ℕ) → (b : Bool) → is_of_generation (l.begun + 1) bucket ≡ b → [] ≡ (if b then l.log bucket else [])
     no_log bucket true mine =
         sym (no_ops (l.log bucket) (h.stands.kept.filled bucket ∙ ap has_ops (well.unused (l.begun + 1) (omega arith) (omega (arith, low)) bucket mine)))
     no_log bucket false other = refl
@@ -154,7 +154,7 @@ module _ (fixed : Fixed) (old : Store) (history : List Event) (h : StoreStandsFo
       number = number ∙ ap (λ (n : ℕ). n + 1) begun_is;
       mark = mark ∙ ap (λ (n : ℕ). mark_of (n + 1)) begun_is;
       rules = ap (λ (f : Fixed). f.rules) by;
-      logs = λ bucket. logs bucket ∙ no_log bucket (is_of (l.begun + 1) bucket) refl;
+      logs = λ bucket. logs bucket ∙ no_log bucket (is_of_generation (l.begun + 1) bucket) refl;
       rows = λ key. rows key;
       index = record {
         rules = index_rules;

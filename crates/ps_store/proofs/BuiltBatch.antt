@@ -20,19 +20,19 @@ use Rattle.ps_store.specs.declared.plans.Made.{Made}
 use Rattle.ps_store.specs.declared.plans.Plan.{Plan}
 use Rattle.ps_store.specs.declared.plans.Planned.{Planned}
 use Rattle.ps_store.specs.declared.plans.Refusal.{Refusal}
-use Rattle.ps_store.specs.Deploys.{as_force, run_of, built_ledger, with_batch, IsBuilt, Grows, IsTaken, IsCounted, IsNamedOf}
+use Rattle.ps_store.specs.Deploys.{as_force, run_of, built_ledger, with_batch, IsBuilt, Grows, PlanIsTaken, BatchIsCounted, IsNamedOf}
 use Rattle.ps_store.specs.Generations.{mark_of, Coming}
 use Rattle.ps_store.specs.Ledgers.{Ledger, unwritten, head_of, write_next, build_next}
 use Rattle.ps_store.specs.Originals.{Entered, Timed, columns_of, standing_entries, in_bucket}
 use Rattle.ps_store.specs.Plans.{IsStart, IsRun}
 use Rattle.ps_store.specs.Rows.{row_at}
 use Rattle.ps_store.specs.Runs.{Run, run_from, ops_from, lasts_from}
-use Rattle.ps_store.specs.Steps.{Step, marked, changes_of}
+use Rattle.ps_store.specs.Steps.{Step, marked, step_changes}
 use Rattle.ps_store.specs.StoreGenerations.{log_in, IndexStandsFor, SameBuilding, StandsIn}
 use Rattle.ps_store.specs.StoreLogs.{log_at, has_ops, first_ops, AreRising, Continue}
 use Rattle.ps_store.specs.Stores.{IsKept}
 use Rattle.ps_store.specs.Tails.{Ascend, AreRowsOf, NotFalling, rows_after, notes_after}
-use Rattle.ps_store.specs.Totals.{names_of, ops_of, totals_of}
+use Rattle.ps_store.specs.Totals.{buckets_entered, entered_ops, totals_of}
 use Rattle.ps_store.proofs.Advancing.{notes_append, rows_front, same_after}
 use Rattle.ps_store.proofs.Alike.{building_same}
 use Rattle.ps_store.proofs.AsForce.{HasTaken, as_it_is, takes_all, with_taken}
@@ -50,17 +50,17 @@ length_map : {A B : Type 0} (f : A → B) (xs : List A) → length (map f xs) �
 length_map f [] = refl
 length_map f (x ∷ xs) = ap suc (length_map f xs)
 
-changes_push : (ss : List Step) (s : Step) → changes_of (ss ++ s ∷ []) ≡ changes_of ss ++ s.timed ∷ []
+changes_push : (ss : List Step) (s : Step) → step_changes (ss ++ s ∷ []) ≡ step_changes ss ++ s.timed ∷ []
 changes_push [] s = refl
 changes_push (x ∷ ss) s = ap (λ (ts : List Timed). x.timed ∷ ts) (changes_push ss s)
 
 -- the changes of a lane are those that it took
-next_changes : (ts : List Timed) (k : Ledger) → changes_of (fold write_next k ts).force.steps ≡ changes_of k.force.steps ++ ts
-next_changes [] k = sym (append-nil (changes_of k.force.steps))
+next_changes : (ts : List Timed) (k : Ledger) → step_changes (fold write_next k ts).force.steps ≡ step_changes k.force.steps ++ ts
+next_changes [] k = sym (append-nil (step_changes k.force.steps))
 next_changes (t ∷ ts) k =
     next_changes ts (write_next k t)
     ∙ ap (λ (us : List Timed). us ++ ts) (changes_push k.force.steps (record { first = k.last + 1; timed = t }))
-    ∙ append_assoc (changes_of k.force.steps) (t ∷ []) ts
+    ∙ append_assoc (step_changes k.force.steps) (t ∷ []) ts
 
 -- out of memory
 pub wants : (old : Building) (coming : Coming) (l : Ledger) (last : OpId) → IsBuilt old coming l last.0 → (old.queue.items ≡ [] → ⊥) → (new : Building) → SameBuilding old new → Grows coming l 0 new (Err building.Memory)
@@ -201,7 +201,7 @@ module _ (old : Building) (coming : Coming) (l : Ledger) (last : OpId) (b : IsBu
           falling [] p h = tt
           falling (u ∷ us) p h = (h.0, falling us u.position h.1)
 
-      module _ (new : Building) (batched : Batched) (t : IsTaken mid plan new) (counted : IsCounted mid plan batched) where
+      module _ (new : Building) (batched : Batched) (t : PlanIsTaken mid plan new) (counted : BatchIsCounted mid plan batched) where
         taken : HasTaken coming l ts (fold build_next l ts) after_all
         taken = takes_all ts coming l k b.is_built (as_it_is coming l)
 
@@ -239,19 +239,19 @@ module _ (old : Building) (coming : Coming) (l : Ledger) (last : OpId) (b : IsBu
         abbrev definitions : List Definition
         definitions = coming.lane.rules.definitions
 
-        index_after : IndexStandsFor new.index after_all.force.rules l.position (changes_of after_all.force.steps) (drop (length ts) coming.queue ++ unwritten l) (head_of l.fed)
+        index_after : IndexStandsFor new.index after_all.force.rules l.position (step_changes after_all.force.steps) (drop (length ts) coming.queue ++ unwritten l) (head_of l.fed)
         index_after = record {
           rules = t.index_rules ∙ stands_mid.index.rules ∙ sym rules_are;
           forgotten = omega (arith, t.index_forgotten, stands_mid.index.forgotten);
           notes =
-              let step : SameFrom l.position (notes_after definitions (notes_after definitions [] (changes_of coming.lane.steps)) ts) (notes_after definitions mid.index.notes ts) =
-              same_after l.position definitions ts (notes_after definitions [] (changes_of coming.lane.steps)) mid.index.notes stands_mid.index.notes in
-              let left : notes_after definitions (notes_after definitions [] (changes_of coming.lane.steps)) ts ≡ notes_after after_all.force.rules.definitions [] (changes_of after_all.force.steps) =
-              sym (notes_append definitions [] (changes_of coming.lane.steps) ts)
+              let step : SameFrom l.position (notes_after definitions (notes_after definitions [] (step_changes coming.lane.steps)) ts) (notes_after definitions mid.index.notes ts) =
+              same_after l.position definitions ts (notes_after definitions [] (step_changes coming.lane.steps)) mid.index.notes stands_mid.index.notes in
+              let left : notes_after definitions (notes_after definitions [] (step_changes coming.lane.steps)) ts ≡ notes_after after_all.force.rules.definitions [] (step_changes after_all.force.steps) =
+              sym (notes_append definitions [] (step_changes coming.lane.steps) ts)
               ∙ (λ i. notes_after (sym rules_are i).definitions [] (sym (next_changes ts k) i)) in
               let right : notes_after definitions mid.index.notes ts ≡ new.index.notes =
               sym (t.index_notes ∙ (λ i. notes_after (stands_mid.index.rules i).definitions mid.index.notes (front_is i))) in
-              subst (λ (ns : List Note). SameFrom l.position ns new.index.notes) left (subst (λ (ns : List Note). SameFrom l.position (notes_after definitions (notes_after definitions [] (changes_of coming.lane.steps)) ts) ns) right step);
+              subst (λ (ns : List Note). SameFrom l.position ns new.index.notes) left (subst (λ (ns : List Note). SameFrom l.position (notes_after definitions (notes_after definitions [] (step_changes coming.lane.steps)) ts) ns) right step);
           ascend =
               subst (λ (us : List Timed). Ascend new.index.last (us ++ unwritten l) (head_of l.fed)) (queue_after)
               (t.index_ascend (unwritten l) (head_of l.fed) (subst (λ (us : List Timed). Ascend mid.index.last (us ++ unwritten l) (head_of l.fed)) (sym stands_mid.queue) stands_mid.index.ascend));
@@ -313,12 +313,12 @@ module _ (old : Building) (coming : Coming) (l : Ledger) (last : OpId) (b : IsBu
             ∙ first_own coming.lane.number (log_at mid.logs) l.log (ops_from k ts) own (λ bucket mine. stands_mid.logs bucket ∙ log_mine coming.lane.number l.log bucket mine) in
             let operations : length m.entered ≡ length l.entered + batched.operations =
             ap length entered_after ∙ length-append l.entered (ops_from k ts) ∙ ap (λ (n : ℕ). length l.entered + n) (ap length (sym entered_are) ∙ sym counted.operations) in
-            let buckets : length (names_of m.entered) ≡ length (names_of l.entered) + batched.first =
-            ap (λ (es : List Entered). length (names_of es)) entered_after ∙ names_more (ops_from k ts) l.entered l.log b.kept.filled
-            ∙ ap (λ (n : ℕ). length (names_of l.entered) + n) (sym first_is ∙ sym counted.first) in
-            let sum : sum_of (ops_of m.entered) ≡ (sum_of (ops_of l.entered) + batched.sum.0) % 2 ^ 32 =
-            ap (λ (es : List Entered). sum_of (ops_of es)) entered_after ∙ sum_append l.entered (ops_from k ts)
-            ∙ ap (λ (s : ℕ). (sum_of (ops_of l.entered) + s) % 2 ^ 32) (ap (λ (es : List Entered). sum_of (ops_of es)) (sym entered_are) ∙ sym counted.sum) in
+            let buckets : length (buckets_entered m.entered) ≡ length (buckets_entered l.entered) + batched.first =
+            ap (λ (es : List Entered). length (buckets_entered es)) entered_after ∙ names_more (ops_from k ts) l.entered l.log b.kept.filled
+            ∙ ap (λ (n : ℕ). length (buckets_entered l.entered) + n) (sym first_is ∙ sym counted.first) in
+            let sum : sum_of (entered_ops m.entered) ≡ (sum_of (entered_ops l.entered) + batched.sum.0) % 2 ^ 32 =
+            ap (λ (es : List Entered). sum_of (entered_ops es)) entered_after ∙ sum_append l.entered (ops_from k ts)
+            ∙ ap (λ (s : ℕ). (sum_of (entered_ops l.entered) + s) % 2 ^ 32) (ap (λ (es : List Entered). sum_of (entered_ops es)) (sym entered_are) ∙ sym counted.sum) in
             λ i. record { transactions = length l.fed; changes = l.written; operations = operations i; buckets = buckets i; sum = record { 0 = sum i } }
 
         count_is : batched.changes ≡ run.count

@@ -9,9 +9,9 @@ use Rattle.ps_queries.specs.Vectors.{SourceRow}
 use Rattle.ps_definitions.specs.declared.definitions.Definition.{Definition}
 use Rattle.ps_definitions.specs.RuleSets.{RuleSet}
 use Rattle.ps_granted.specs.Sources.{row_of, rows_in}
-use Rattle.ps_params.specs.Indexes.{StandsAt}
+use Rattle.ps_params.specs.Indexes.{IndexStandsAt}
 use Rattle.ps_params.specs.Names.{bucket_names}
-use Rattle.ps_params.specs.Notes.{row_at}
+use Rattle.ps_params.specs.Notes.{noted_row}
 use Rattle.ps_store.specs.declared.building.Building.{Building}
 use Rattle.ps_store.specs.declared.events.Event.{Event}
 use Rattle.ps_store.specs.declared.fixed.Fixed.{Fixed}
@@ -20,7 +20,7 @@ use Rattle.ps_store.specs.Generations.{Coming}
 use Rattle.ps_store.specs.IndexLaws.{GivesNames}
 use Rattle.ps_store.specs.Ledgers.{Ledger, head_of, unwritten, ledger_of}
 use Rattle.ps_store.specs.Originals.{columns_of}
-use Rattle.ps_store.specs.Steps.{changes_of}
+use Rattle.ps_store.specs.Steps.{step_changes}
 use Rattle.ps_store.specs.StoreGenerations.{StandsIn}
 use Rattle.ps_store.specs.Stores.{StoreStandsFor}
 use Rattle.ps_store.proofs.Abandoning.{is_built}
@@ -81,22 +81,22 @@ module _ (fixed : Fixed) (store : Store) (history : List Event) (built : Buildin
   abbrev definitions : List Definition
   definitions = coming.lane.rules.definitions
 
-  low : AllUpTo p (changes_of coming.lane.steps)
+  low : AllUpTo p (step_changes coming.lane.steps)
   low = (comes.0.low p (all_higher (head_of l.fed) p (done_of l) late (fed_low l well.rises).0)).0
 
-  source_is : after_all [] (changes_of coming.lane.steps) ≡ coming.lane.source
+  source_is : after_all [] (step_changes coming.lane.steps) ≡ coming.lane.source
   source_is = sym (comes.0.source ∙ source_changes [] coming.lane.steps)
 
   behind : l.position ≤ p
   behind = omega (arith, h.stands.kept.checkpoint, reached_low l.fed l.written l.reach well.rises well.place, late)
 
-  stands_built : StandsAt built.index.rules.definitions built.index.notes p (rows_in coming.lane.source)
+  stands_built : IndexStandsAt built.index.rules.definitions built.index.notes p (rows_in coming.lane.source)
   stands_built =
-      subst (λ (r : RuleSet). StandsAt r.definitions built.index.notes p (rows_in coming.lane.source)) (sym stands.index.rules)
+      subst (λ (r : RuleSet). IndexStandsAt r.definitions built.index.notes p (rows_in coming.lane.source)) (sym stands.index.rules)
       (λ r read.
-      let row : row_at built.index.notes r.table r.id p ≡ columns_of (find key_cmp (r.table, r.id) coming.lane.source) =
+      let row : noted_row built.index.notes r.table r.id p ≡ columns_of (find key_cmp (r.table, r.id) coming.lane.source) =
       sym (stands.index.notes r.table r.id p behind)
-      ∙ rows_noted r.table r.id p definitions read (changes_of coming.lane.steps) [] [] low refl
+      ∙ rows_noted r.table r.id p definitions read (step_changes coming.lane.steps) [] [] low refl
       ∙ ap (λ (s : Source). columns_of (find key_cmp (r.table, r.id) s)) source_is in
       let there = in_source coming.lane.source r (subst (λ (s : Source). T (is_sorted key_cmp s)) (sym comes.0.source) (in_order coming.lane.steps)) in
       (λ c. row ∙ there.0 c, λ k. there.1 (sym row ∙ k)))

@@ -5,7 +5,7 @@ use Rattle.std.proofs.lemmas.Bool.Decides.{nat_tests}
 use Rattle.ps_data.specs.declared.ids.Position.{Position}
 use Rattle.ps_write_cp.specs.declared.faults.NumberFault.{NumberFault}
 use Rattle.ps_write_cp.specs.declared.faults.NumberFault.TheVariants as numbering
-use Rattle.ps_write_cp.specs.Kept.{Kept, heads_at, StandsFor, HaveSame, Answers}
+use Rattle.ps_write_cp.specs.Kept.{KeptNumbers, heads_at, StandsFor, HaveSameHeads, AnswersNumber}
 use Rattle.ps_write_cp.specs.Numbers.{Made}
 use Rattle.ps_rows.specs.declared.changes.Change.{Change}
 use Rattle.ps_rows.specs.declared.changes.Transaction.{Transaction}
@@ -34,7 +34,7 @@ use Rattle.ps_store.specs.Stores.{StoreStandsFor, Feeds, Commits, IsKept, Upload
 use Rattle.std.proofs.Common.{append_assoc}
 use Rattle.ps_bucket_log.specs.declared.ops.Op.{Op}
 use Rattle.ps_store.specs.declared.building.Building.{Building}
-use Rattle.ps_store.specs.Generations.{is_of}
+use Rattle.ps_store.specs.Generations.{is_of_generation}
 use Rattle.ps_store.specs.StoreGenerations.{ending_at, GenerationsStand, HavePlaces, IsBuilding}
 use Rattle.ps_store.specs.Tails.{Ascend}
 use Rattle.ps_store.proofs.Advancing.{ascend_append}
@@ -62,7 +62,7 @@ stands_fresh store limits are query_numbers logs rows changes reach rules notes 
   stands = record {
     rules = ap (λ (o : Option Fixed). (unwrap_or o store.fixed).rules) (sym by);
     by_limits = ap (λ (o : Option Fixed). (unwrap_or o store.fixed).limits) by;
-    logs = λ bucket. logs bucket ∙ none_in (is_of 1 bucket);
+    logs = λ bucket. logs bucket ∙ none_in (is_of_generation 1 bucket);
     changes = changes;
     reach = reach;
     rows = rows;
@@ -335,7 +335,7 @@ module _ (fixed : Fixed) (old : Store) (history : List Event) (h : StoreStandsFo
     narrow = k.narrow;
   }
 
-  number_given : (user client : List ℕ) (numbers : Kept) → last_number l user client < fixed.limits.numbers
+  number_given : (user client : List ℕ) (numbers : KeptNumbers) → last_number l user client < fixed.limits.numbers
       → ((made : List Made) → StandsFor old.numbers made → StandsFor numbers (made ++ (record { user = user; client = client; head = old.head }) ∷ []))
       → numbers.head ≡ old.head.0 → numbers.top ≡ old.numbers.top
       → StoreStandsFor fixed (record old { numbers = numbers }) (history ++ WriteCheckpoint user client ∷ [])
@@ -368,7 +368,7 @@ module _ (fixed : Fixed) (old : Store) (history : List Event) (h : StoreStandsFo
         kept = kept_numbers (l.numbers ++ made_by user client l.fed ∷ []) h.stands.kept;
       })
 
-  number_kept : (numbers : Kept) → HaveSame old.numbers numbers → numbers.top ≡ old.numbers.top → StoreStandsFor fixed (record old { numbers = numbers }) history
+  number_kept : (numbers : KeptNumbers) → HaveSameHeads old.numbers numbers → numbers.top ≡ old.numbers.top → StoreStandsFor fixed (record old { numbers = numbers }) history
   number_kept numbers same top = stands_still fixed old (record old { numbers = numbers }) history h refl (record {
     rules = h.stands.rules;
     by_limits = h.stands.by_limits;
@@ -394,9 +394,9 @@ module _ (fixed : Fixed) (old : Store) (history : List Event) (h : StoreStandsFo
     kept = h.stands.kept;
   })
 
-  pub number_made : (user client : List ℕ) (numbers : Kept) (result : Result ℕ NumberFault) → Answers old.numbers.top (length (heads_at old.numbers user client)) result
+  pub number_made : (user client : List ℕ) (numbers : KeptNumbers) (result : Result ℕ NumberFault) → AnswersNumber old.numbers.top (length (heads_at old.numbers user client)) result
       → OnOk result ((made : List Made) → StandsFor old.numbers made → StandsFor numbers (made ++ (record { user = user; client = client; head = old.head }) ∷ []))
-      → OnOk result (numbers.head ≡ old.head.0) → OnErr result (HaveSame old.numbers numbers) → numbers.top ≡ old.numbers.top
+      → OnOk result (numbers.head ≡ old.head.0) → OnErr result (HaveSameHeads old.numbers numbers) → numbers.top ≡ old.numbers.top
       → MakesNumber fixed history user client (record old { numbers = numbers }) result
   number_made user client numbers (Ok number) answer made head refused top =
       let less : last_number l user client < fixed.limits.numbers = omega (arith, answer.1, heads_are user client, tops) in

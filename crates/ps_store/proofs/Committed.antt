@@ -12,18 +12,18 @@ use Rattle.ps_queries.specs.declared.askers.Asker.{Asker}
 use Rattle.ps_queries.specs.Vectors.{SourceRow}
 use Rattle.ps_definitions.specs.declared.definitions.Definition.{Definition}
 use Rattle.ps_definitions.specs.Names.{begins_word}
-use Rattle.ps_definitions.specs.RuleSets.{RuleSet, AreRules, IsSound}
+use Rattle.ps_definitions.specs.RuleSets.{RuleSet, AreRules, IsSoundDefinition}
 use Rattle.ps_granted.specs.Grants.{granted}
 use Rattle.ps_granted.specs.Latest.{rows_of}
 use Rattle.ps_granted.specs.Sources.{rows_in}
-use Rattle.ps_store.specs.Generations.{mark_of, is_of}
+use Rattle.ps_store.specs.Generations.{mark_of, is_of_generation}
 use Rattle.ps_store.specs.Laws.{AreSqlVectors, IsBucketOf}
 use Rattle.ps_store.specs.LedgerLaws.{checkpoint_held, checkpoint_source, held_in, CommittedRowsAreDue, ReadersHoldCommitted}
 use Rattle.ps_store.specs.Ledgers.{Ledger, ledger_of}
 use Rattle.ps_store.specs.Originals.{Entered, after, change_ops, in_bucket}
 use Rattle.ps_store.specs.Standing.{Holding, HoldsStanding}
 use Rattle.ps_store.specs.StepLaws.{HoldsLaneBuckets, LatestRowsAreGranted, ReadersHoldStepped}
-use Rattle.ps_store.specs.Steps.{Step, marked, in_lane, lane_ops, source_after, StepsRise, steps_upto, changes_of, held_of}
+use Rattle.ps_store.specs.Steps.{Step, marked, in_lane, lane_ops, source_after, StepsRise, steps_upto, step_changes, holding_of}
 use Rattle.ps_store.proofs.Cutting.{cut_upto, front_from}
 use Rattle.ps_store.proofs.Fronts.{Climbs, changes_upto, climbs_rise}
 use Rattle.ps_store.proofs.Generating.{moments_front, steps_from}
@@ -45,11 +45,11 @@ module _ (l : Ledger) (h : IsWell l) where
   abbrev pub front : List Step
   front = steps_upto l.position l.force.steps
 
-  rises : MomentsRise 0 0 (changes_of l.force.steps)
-  rises = moments_front 0 0 (changes_of l.force.steps) _ h.force.moments
+  rises : MomentsRise 0 0 (step_changes l.force.steps)
+  rises = moments_front 0 0 (step_changes l.force.steps) _ h.force.moments
 
-  climbs : Climbs 0 (changes_of l.force.steps)
-  climbs = climbs_rise 0 0 (changes_of l.force.steps) rises
+  climbs : Climbs 0 (step_changes l.force.steps)
+  climbs = climbs_rise 0 0 (step_changes l.force.steps) rises
 
   pub front_rises : StepsRise definitions [] front
   front_rises = steps_rise definitions [] 0 0 0 front
@@ -60,7 +60,7 @@ module _ (l : Ledger) (h : IsWell l) where
   front_source = source_changes [] front ∙ ap (after_all []) (changes_upto l.position l.force.steps) ∙ h.checkpoint.source
 
   -- and their operations are those up to the op
-  pub front_ops : (name : List ℕ) → is_of l.force.number (mark ++ name) ≡ true → in_bucket (mark ++ name) (lane_ops mark definitions [] front) ≡ upto l.op (in_bucket (mark ++ name) l.entered)
+  pub front_ops : (name : List ℕ) → is_of_generation l.force.number (mark ++ name) ≡ true → in_bucket (mark ++ name) (lane_ops mark definitions [] front) ≡ upto l.op (in_bucket (mark ++ name) l.entered)
   front_ops name is = sym (ap (upto l.op) (h.force.own (mark ++ name) is) ∙ cut_upto mark (mark ++ name) l.position l.op 0 definitions [] l.force.steps climbs h.checkpoint.cut)
 
 at_one : {X : Type 0} (P : X → Type 0) (xs : List X) (x : X) → AllByRecursion P xs → Has xs x → P x
@@ -68,10 +68,10 @@ at_one P [] x h i = absurd i
 at_one P (y ∷ ys) x h i = elim i [ inl e ↦ subst P e h.0 | inr t ↦ at_one P ys x h.1 t ]
 
 -- a bucket of an asker is one of the generation
-pub asked_of : (rules : RuleSet) (number : ℕ) (asker : Asker) (rows : List SourceRow) (name : List ℕ) → AreRules rules → IsBucketOf rules.definitions asker rows name → is_of number (mark_of number ++ name) ≡ true
+pub asked_of : (rules : RuleSet) (number : ℕ) (asker : Asker) (rows : List SourceRow) (name : List ℕ) → AreRules rules → IsBucketOf rules.definitions asker rows name → is_of_generation number (mark_of number ++ name) ≡ true
 asked_of rules number asker rows name are b =
     is_of_marked number name (subst (λ (n : List ℕ). begins_word n ≡ true) (sym b.4)
-    (bucket_begins b.0.name b.1 (at_one IsSound rules.definitions b.0 are.sound (contains_has rules.definitions b.0 b.2)).name))
+    (bucket_begins b.0.name b.1 (at_one IsSoundDefinition rules.definitions b.0 are.sound (contains_has rules.definitions b.0 b.2)).name))
 
 pub rows_due : LatestRowsAreGranted → CommittedRowsAreDue
 rows_due granted_law rules history asker kept rows are numbers legal sql holds latest =
@@ -80,7 +80,7 @@ rows_due granted_law rules history asker kept rows are numbers legal sql holds l
     let ds : List Definition = l.force.rules.definitions in
     let there : Source = source_after [] (front l h) in
     let source : there ≡ checkpoint_source rules history = front_source l h in
-    let taken : HoldsLaneBuckets (mark l h) ds asker (rows_in there) (held_of (lane_ops (mark l h) ds [] (front l h))) kept = record {
+    let taken : HoldsLaneBuckets (mark l h) ds asker (rows_in there) (holding_of (lane_ops (mark l h) ds [] (front l h))) kept = record {
       own = λ bucket is key.
           let here : IsBucketOf ds asker (rows_in (checkpoint_source rules history)) bucket = subst (λ (s : Source). IsBucketOf ds asker (rows_in s) bucket) source is in
           let ops = front_ops l h bucket (asked_of l.force.rules l.force.number asker (rows_in (checkpoint_source rules history)) bucket h.force.are here) in
@@ -93,7 +93,7 @@ rows_due granted_law rules history asker kept rows are numbers legal sql holds l
 
 -- ---- what readers hold of the whole generation
 
-outside : (number : ℕ) (bucket : List ℕ) (es : List Entered) → AreOf number es → is_of number bucket ≡ false → in_bucket bucket es ≡ []
+outside : (number : ℕ) (bucket : List ℕ) (es : List Entered) → AreOf number es → is_of_generation number bucket ≡ false → in_bucket bucket es ≡ []
 outside number bucket [] all no_of = refl
 outside number bucket (e ∷ es) all no_of =
     in_bucket_cons bucket e es ∙ by (bytes_eq bucket e.bucket) refl ∙ outside number bucket es all.1 no_of
@@ -101,7 +101,7 @@ outside number bucket (e ∷ es) all no_of =
     by : (b : Bool) → bytes_eq bucket e.bucket ≡ b → (if b then e.op ∷ in_bucket bucket es else in_bucket bucket es) ≡ in_bucket bucket es
     by true same =
         let here : bucket ≡ e.bucket = (bytes_eq-Decides bucket e.bucket).0 same in
-        let wrong : true ≡ false = sym all.0 ∙ ap (is_of number) (sym here) ∙ no_of in
+        let wrong : true ≡ false = sym all.0 ∙ ap (is_of_generation number) (sym here) ∙ no_of in
         absurd (cc)
     by false other = refl
 
@@ -116,17 +116,17 @@ readers_hold stepped rules history are numbers legal =
     let l : Ledger = ledger_of rules history in
     let h : IsWell l = well_history rules history are numbers legal in
     let ds : List Definition = l.force.rules.definitions in
-    let all : Holding = in_lane (mark l h) (held_of (lane_ops (mark l h) ds [] (front l h))) in
+    let all : Holding = in_lane (mark l h) (holding_of (lane_ops (mark l h) ds [] (front l h))) in
     let same : all ≡ held_in l.force.number (checkpoint_held rules history) = λ i bucket key. alike l h (checkpoint_held rules history) (λ b k. refl) bucket key i in
     subst (λ (s : Source). HoldsStanding ds s (held_in l.force.number (checkpoint_held rules history))) (front_source l h)
     (subst (HoldsStanding ds (source_after [] (front l h))) same (stepped (mark l h) l.force.rules (front l h) h.force.are h.force.have (front_rises l h)))
   where
     alike : (l : Ledger) (h : IsWell l) (held : Holding) → ((b : List ℕ) (k : Key) → held b k ≡ (bucket_of (upto l.op (in_bucket b l.entered))).held k) → (bucket : List ℕ) (key : Key)
-        → in_lane (mark l h) (held_of (lane_ops (mark l h) (definitions l h) [] (front l h))) bucket key ≡ held_in l.force.number held bucket key
-    alike l h held is bucket key = by (is_of l.force.number (mark l h ++ bucket)) refl
+        → in_lane (mark l h) (holding_of (lane_ops (mark l h) (definitions l h) [] (front l h))) bucket key ≡ held_in l.force.number held bucket key
+    alike l h held is bucket key = by (is_of_generation l.force.number (mark l h ++ bucket)) refl
       where
-        by : (b : Bool) → is_of l.force.number (mark l h ++ bucket) ≡ b
-            → in_lane (mark l h) (held_of (lane_ops (mark l h) (definitions l h) [] (front l h))) bucket key ≡ held_in l.force.number held bucket key
+        by : (b : Bool) → is_of_generation l.force.number (mark l h ++ bucket) ≡ b
+            → in_lane (mark l h) (holding_of (lane_ops (mark l h) (definitions l h) [] (front l h))) bucket key ≡ held_in l.force.number held bucket key
         by true mine =
             ap (λ (os : List Op). (bucket_of os).held key) (front_ops l h bucket mine) ∙ sym (is (mark l h ++ bucket) key)
             ∙ sym (ap (λ (b : Bool). if b then held (mark l h ++ bucket) key else None) mine)

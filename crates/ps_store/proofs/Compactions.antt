@@ -18,8 +18,8 @@ use Rattle.ps_store.specs.declared.fixed.Fixed.{Fixed}
 use Rattle.ps_store.specs.declared.fixed.Limits.{Limits}
 use Rattle.ps_store.specs.declared.logs.Logs.{Logs}
 use Rattle.ps_store.specs.declared.stores.Store.{Store}
-use Rattle.ps_store.specs.Ledgers.{Ledger, fresh, unwritten, head_of, ledger_after, ledger_of, compacted_in, IsLegal}
-use Rattle.ps_store.specs.Generations.{is_of, Coming}
+use Rattle.ps_store.specs.Ledgers.{Ledger, fresh_ledger, unwritten, head_of, ledger_after, ledger_of, compacted_in, IsLegal}
+use Rattle.ps_store.specs.Generations.{is_of_generation, Coming}
 use Rattle.ps_store.specs.LogLaws.{LogStands, LogsStand}
 use Rattle.ps_store.specs.Limits.{greatest}
 use Rattle.ps_store.specs.Originals.{in_bucket}
@@ -148,30 +148,30 @@ some_ops [] h = absurd (h refl)
 some_ops (op ∷ ops) h = refl
 
 -- of another generation than a bucket's nothing changes with its compaction
-compact_other : (force g level : ℕ) (name : List ℕ) (log : List ℕ → List Op) → is_of force name ≡ true → 1 ≤ g → 1 ≤ force → g ≤ greatest → force ≤ greatest → (g ≡ force → ⊥) → (bucket : List ℕ)
+compact_other : (force g level : ℕ) (name : List ℕ) (log : List ℕ → List Op) → is_of_generation force name ≡ true → 1 ≤ g → 1 ≤ force → g ≤ greatest → force ≤ greatest → (g ≡ force → ⊥) → (bucket : List ℕ)
     → log_in g log bucket ≡ log_in g (compacted_in name level log) bucket
-compact_other force g level name log mine some_g some_force low_g low_force apart bucket = by (is_of g bucket) refl (bytes_eq bucket name) refl
+compact_other force g level name log mine some_g some_force low_g low_force apart bucket = by (is_of_generation g bucket) refl (bytes_eq bucket name) refl
   where
-    by : (b : Bool) → is_of g bucket ≡ b → (c : Bool) → bytes_eq bucket name ≡ c → (if b then log bucket else []) ≡ (if b then (if c then compacted level (log bucket) else log bucket) else [])
+    by : (b : Bool) → is_of_generation g bucket ≡ b → (c : Bool) → bytes_eq bucket name ≡ c → (if b then log bucket else []) ≡ (if b then (if c then compacted level (log bucket) else log bucket) else [])
     by false other c same = refl
     by true of_g false same = refl
     by true of_g true same =
         let here : bucket ≡ name = (bytes_eq-Decides bucket name).0 same in
-        absurd (apart (one_generation g force bucket some_g some_force low_g low_force of_g (ap (is_of force) here ∙ mine)))
+        absurd (apart (one_generation g force bucket some_g some_force low_g low_force of_g (ap (is_of_generation force) here ∙ mine)))
 
 -- and what the store has is that of the generation's log
-compact_own : (force level : ℕ) (name : List ℕ) (held log : List ℕ → List Op) → is_of force name ≡ true → ((bucket : List ℕ) → held bucket ≡ log_in force log bucket) → (bucket : List ℕ)
+compact_own : (force level : ℕ) (name : List ℕ) (held log : List ℕ → List Op) → is_of_generation force name ≡ true → ((bucket : List ℕ) → held bucket ≡ log_in force log bucket) → (bucket : List ℕ)
     → compacted_in name level held bucket ≡ log_in force (compacted_in name level log) bucket
 compact_own force level name held log mine same bucket =
-    ap (λ (ops : List Op). if bytes_eq bucket name then compacted level ops else ops) (same bucket) ∙ by (is_of force bucket) refl (bytes_eq bucket name) refl
+    ap (λ (ops : List Op). if bytes_eq bucket name then compacted level ops else ops) (same bucket) ∙ by (is_of_generation force bucket) refl (bytes_eq bucket name) refl
   where
-    by : (b : Bool) → is_of force bucket ≡ b → (c : Bool) → bytes_eq bucket name ≡ c
+    by : (b : Bool) → is_of_generation force bucket ≡ b → (c : Bool) → bytes_eq bucket name ≡ c
         → (if c then compacted level (if b then log bucket else []) else (if b then log bucket else [])) ≡ (if b then (if c then compacted level (log bucket) else log bucket) else [])
     by true of_force c same = refl
     by false other false same = refl
     by false other true same =
         let here : bucket ≡ name = (bytes_eq-Decides bucket name).0 same in
-        let wrong : true ≡ false = sym mine ∙ ap (is_of force) (sym here) ∙ other in
+        let wrong : true ≡ false = sym mine ∙ ap (is_of_generation force) (sym here) ∙ other in
         absurd (cc)
 
 module _ (fixed : Fixed) (old : Store) (history : List Event) (h : StoreStandsFor fixed old history) (name : List ℕ) where
@@ -185,20 +185,20 @@ module _ (fixed : Fixed) (old : Store) (history : List Event) (h : StoreStandsFo
   count = length (upto old.last.0 (log_at old.logs name))
 
   -- what is counted is the log, where it is of the generation in force
-  count_is : count ≡ length (if is_of l.force.number name then l.log name else [])
+  count_is : count ≡ length (if is_of_generation l.force.number name then l.log name else [])
   count_is = ap length (whole_log fixed old history h name)
 
   pub compact_none : count ≡ 0 → Compacts fixed history name old (Err compacting.NoBucket)
-  compact_none none = (by (is_of l.force.number name) (sym count_is ∙ none), h)
+  compact_none none = (by (is_of_generation l.force.number name) (sym count_is ∙ none), h)
     where
       by : (b : Bool) → length (if b then l.log name else []) ≡ 0 → (if b then in_bucket name l.entered else []) ≡ []
       by true empty = none_from (in_bucket name l.entered) (sym (h.stands.kept.filled name) ∙ ap has_ops (no_ops (l.log name) empty))
       by false empty = refl
 
-  can : (count ≡ 0 → ⊥) → (is_of l.force.number name ≡ true) × (in_bucket name l.entered ≢ [])
-  can some = by (is_of l.force.number name) refl (λ none. some (count_is ∙ none))
+  can : (count ≡ 0 → ⊥) → (is_of_generation l.force.number name ≡ true) × (in_bucket name l.entered ≢ [])
+  can some = by (is_of_generation l.force.number name) refl (λ none. some (count_is ∙ none))
     where
-      by : (b : Bool) → is_of l.force.number name ≡ b → (length (if b then l.log name else []) ≡ 0 → ⊥) → (is_of l.force.number name ≡ true) × (in_bucket name l.entered ≢ [])
+      by : (b : Bool) → is_of_generation l.force.number name ≡ b → (length (if b then l.log name else []) ≡ 0 → ⊥) → (is_of_generation l.force.number name ≡ true) × (in_bucket name l.entered ≢ [])
       by true mine there = (mine, some_from (in_bucket name l.entered) (sym (h.stands.kept.filled name) ∙ some_ops (l.log name) there))
       by false other there = absurd (there refl)
 
@@ -235,7 +235,7 @@ module _ (fixed : Fixed) (old : Store) (history : List Event) (h : StoreStandsFo
   compact_faults some logs same (Err fault) is = subst (λ (f : CompactFault). Compacts fixed history name (record old { logs = logs }) (Err f)) (sym is) (compact_wants some logs same)
 
   -- what is built has other logs
-  built_logs : is_of l.force.number name ≡ true → (o : Option Coming) → ComesWell l.entered l.last l.begun (done_of l) (unwritten l) l.force.number o → KeepsLogs l.log (compacted_in name l.op l.log) o
+  built_logs : is_of_generation l.force.number name ≡ true → (o : Option Coming) → ComesWell l.entered l.last l.begun (done_of l) (unwritten l) l.force.number o → KeepsLogs l.log (compacted_in name l.op l.log) o
   built_logs mine None k = tt
   built_logs mine (Some c) k = λ bucket.
       compact_other l.force.number c.lane.number l.op name l.log mine k.0.from_one well.force.from_one (omega (arith, k.1, well.begun_low)) (omega (arith, well.force.begun_is, well.begun_low)) (λ e. omega (arith, e, k.2)) bucket
@@ -245,7 +245,7 @@ module _ (fixed : Fixed) (old : Store) (history : List Event) (h : StoreStandsFo
       → Compacts fixed history name (record old { logs = logs }) (Ok report)
   compact_done law is_log sums some logs report said counted =
       let c = can some in
-      let legal : IsLegal fixed.rules (history ++ Compact name ∷ []) = legal_push history (fresh fixed.rules) (Compact name) h.legal c in
+      let legal : IsLegal fixed.rules (history ++ Compact name ∷ []) = legal_push history (fresh_ledger fixed.rules) (Compact name) h.legal c in
       let stand : (bucket : List ℕ) → LogStands (ledger_after l (Compact name)) bucket = λ bucket.
       subst (λ (n : Ledger). LogStands n bucket) (ledger_push fixed.rules history (Compact name)) (law fixed.rules (history ++ Compact name ∷ []) legal bucket) in (
         counted ∙ ap (λ (n : ℕ). report_of n (log_at old.logs name)) h.stands.op ∙ ap (report_of l.op) (h.stands.logs name ∙ ap (λ (b : Bool). if b then l.log name else []) c.0),

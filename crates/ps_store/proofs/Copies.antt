@@ -31,23 +31,23 @@ use Rattle.ps_queries.specs.Subjects.{condition_speaks}
 use Rattle.ps_definitions.specs.declared.definitions.Definition.{Definition}
 use Rattle.ps_definitions.specs.declared.queries.Planned.{Planned}
 use Rattle.ps_definitions.specs.Names.{is_in, has_repeated}
-use Rattle.ps_definitions.specs.Checks.{names_of}
-use Rattle.ps_definitions.specs.RuleSets.{RuleSet, AreRules, IsSound, IsSoundQuery}
+use Rattle.ps_definitions.specs.Checks.{names_of_parameters}
+use Rattle.ps_definitions.specs.RuleSets.{RuleSet, AreRules, IsSoundDefinition, IsSoundQuery}
 use Rattle.ps_queries.specs.Vectors.{SourceRow, asked_of, vector_values, vector_on}
 use Rattle.ps_definitions.specs.Vectors.{rows_read, query_vectors, parameter_vectors}
 use Rattle.ps_granted.specs.declared.copies.Granted.{Granted}
 use Rattle.ps_granted.specs.Sources.{row_of as read_row, rows_in}
-use Rattle.ps_granted.specs.Grants.{given_for, holds_for_some, is_granted, copy_with, copy_of, grant_of, granted_by_query, granted_by, granted}
+use Rattle.ps_granted.specs.Grants.{given_for, holds_for_some, is_granted, copy_with, granted_copy, grant_of, granted_by_query, granted_by, granted}
 use Rattle.ps_bucket_eval.specs.declared.placed.Placed.{Placed}
 use Rattle.ps_definitions.specs.Buckets.{bucket_name_of, in_order}
 use Rattle.ps_queries.specs.Objects.{value_named, object_id, output_column, shown_columns, content_of}
 use Rattle.ps_sql_eval.specs.Evaluated.{nobody}
 use Rattle.ps_bucket_eval.specs.Shown.{alone}
 use Rattle.ps_bucket_eval.specs.Vectors.{with_vector, holding}
-use Rattle.ps_bucket_eval.specs.Entries.{placed_in, entry_of, placed_all, buckets_of, query_entries, definition_entries, entries_of}
+use Rattle.ps_bucket_eval.specs.Entries.{placed_in, vector_entry, placed_all, buckets_of, query_entries, definition_entries, entries_of}
 use Rattle.ps_definitions.specs.Laws.{NamesDiffer}
 use Rattle.ps_bucket_eval.specs.Laws.{IsVectorOf, PlacedWhereItHolds}
-use Rattle.ps_store.specs.Originals.{row_of}
+use Rattle.ps_store.specs.Originals.{keyed_row}
 use Rattle.ps_store.specs.Standing.{Standing, IsCopyOf}
 use Rattle.ps_store.specs.Laws.{AreSqlVectors, IsBucketOf}
 use Rattle.ps_definitions.proofs.NamesInOrder.{from_in_order}
@@ -210,10 +210,10 @@ same_named (x ∷ xs) c d h i j e =
     ]
 
 -- a vector has one value for each name
-each_named : (d : Definition) (asker : Asker) (rows : List SourceRow) (values : List Value) → d.names ≡ names_of d.parameters → Has (parameter_vectors d asker rows) values → length values ≡ length d.names
+each_named : (d : Definition) (asker : Asker) (rows : List SourceRow) (values : List Value) → d.names ≡ names_of_parameters d.parameters → Has (parameter_vectors d asker rows) values → length values ≡ length d.names
 each_named d asker rows values names h = go d.parameters names h
   where
-    go : (ps : List ParameterQuery) → d.names ≡ names_of ps → Has (parameter_vectors (record d { parameters = ps }) asker rows) values → length values ≡ length d.names
+    go : (ps : List ParameterQuery) → d.names ≡ names_of_parameters ps → Has (parameter_vectors (record d { parameters = ps }) asker rows) values → length values ≡ length d.names
     go [] e i = elim i [ inl a ↦ ap length (sym a) ∙ ap length (sym e) | inr b ↦ absurd b ]
     go (p ∷ ps) e i =
         let q = from_flat (query_vectors d.names asker rows) (p ∷ ps) values i in
@@ -228,7 +228,7 @@ record IsShape (d : Definition) (q : Planned) (row : SourceRow) (x : Placed) : T
   pub object : List ℕ
   pub shows : object_id (alone row.id row.row) q.query ≡ Some object
   pub values : List Value
-  pub is : entry_of d q row object values ≡ x
+  pub is : vector_entry d q row object values ≡ x
 
 module _ (d : Definition) (q : Planned) (row : SourceRow) (x : Placed) where
   all_shape : q.query.table ≡ row.table → (o : Option (List ℕ)) → object_id (alone row.id row.row) q.query ≡ o → Has (placed_all d row q o) x → IsShape d q row x
@@ -257,8 +257,8 @@ module _ (rules : RuleSet) (asker : Asker) (source : Source) (are : AreRules rul
   abbrev Stands : Granted → Type 0
   Stands c = (s : Standing rules.definitions source) × IsBucketOf rules.definitions asker (rows_in source) s.entry.bucket × IsCopyOf s c
 
-  sound_at : (d : Definition) → Has rules.definitions d → IsSound d
-  sound_at d i = all_of IsSound rules.definitions d are.sound i
+  sound_at : (d : Definition) → Has rules.definitions d → IsSoundDefinition d
+  sound_at d i = all_of IsSoundDefinition rules.definitions d are.sound i
 
   query_at : (d : Definition) (q : Planned) → Has rules.definitions d → Has d.queries q → IsSoundQuery d.names q
   query_at d q i j = all_of (IsSoundQuery d.names) d.queries q (sound_at d i).queries j
@@ -268,7 +268,7 @@ module _ (rules : RuleSet) (asker : Asker) (source : Source) (are : AreRules rul
   nobody_asked d q i j = or_parts (some_asks q.query.outputs) (condition_speaks subjects.Asker q.query.condition) (query_at d q i j).no_asker
 
   is_vector : (key : Key) (version : Version) (d : Definition) (q : Planned) (object : List ℕ) (values : List Value) → Has rules.definitions d → Has d.queries q → Has (vectors d) values
-      → q.query.table ≡ key.0 → object_id (alone key.1 version.columns) q.query ≡ Some object → IsVectorOf rules (row_of key version.columns) d q object values
+      → q.query.table ≡ key.0 → object_id (alone key.1 version.columns) q.query ≡ Some object → IsVectorOf rules (keyed_row key version.columns) d q object values
   is_vector key version d q object values i j k table shows = record {
     of_rules = has_contains rules.definitions d i;
     of_definition = has_contains d.queries q j;
@@ -282,7 +282,7 @@ module _ (rules : RuleSet) (asker : Asker) (source : Source) (are : AreRules rul
       → grant_of asker d.names (vectors d) q (key, version) ≡ Some c → Stands c
   of_grant key version d q c i j k g =
       let row = read_row (key, version) in
-      let parts = chosen (is_granted asker d.names (vectors d) q.query row) (copy_of asker q (key, version)) c g in
+      let parts = chosen (is_granted asker d.names (vectors d) q.query row) (granted_copy asker q (key, version)) c g in
       let tests = and_parts (bytes_eq key.0 q.query.table) (holds_for_some asker d.names (vectors d) q.query row) parts.0 in
       let some = any_has (λ vector. holds (given_for asker d.names row vector) q.query.condition) (vectors d) tests.1 in
       let shown = mapped (copy_with asker q (key, version)) (object_id (asked_of asker row) q.query) c parts.1 in
@@ -293,8 +293,8 @@ module _ (rules : RuleSet) (asker : Asker) (source : Source) (are : AreRules rul
           key = key;
           version = version;
           there = find_there source key version sorted k;
-          entry = entry_of d q (row_of key version.columns) shown.0 some.0;
-          is_entry = (placed (row_of key version.columns) d q shown.0 some.0 vector).0 (holds_Holds (with_vector key.1 version.columns d.names some.0) q.query.condition holds_there);
+          entry = vector_entry d q (keyed_row key version.columns) shown.0 some.0;
+          is_entry = (placed (keyed_row key version.columns) d q shown.0 some.0 vector).0 (holds_Holds (with_vector key.1 version.columns d.names some.0) q.query.condition holds_there);
         },
         (d, some.0, has_contains rules.definitions d i, has_contains (vectors d) some.0 some.1, refl),
         record {
@@ -324,23 +324,23 @@ module _ (rules : RuleSet) (asker : Asker) (source : Source) (are : AreRules rul
       let asked = nobody_asked d q i j in
       let some = has_any (λ vector. holds (given_for asker d.names row vector) q.query.condition) (vectors d) values k
       (same_holds same (given_for asker d.names row values) q.query.condition asked.1 ∙ holds_there) in
-      ap (λ b. if b then copy_of asker q (key, version) else None)
+      ap (λ b. if b then granted_copy asker q (key, version) else None)
       (and_from (bytes_eq key.0 q.query.table) (holds_for_some asker d.names (vectors d) q.query row) (name_same key.0 q.query.table (sym table)) some)
       ∙ ap (option_map (copy_with asker q (key, version))) (same_object same asker row q.query asked.0 ∙ shows)
 
   abbrev IsGranted : Standing rules.definitions source → Type 0
   IsGranted s = (c : Granted) × Has (granted rules.definitions asker source) c × IsCopyOf s c
 
-  of_shape : (s : Standing rules.definitions source) (d : Definition) (q : Planned) → Has rules.definitions d → Has d.queries q → IsShape d q (row_of s.key s.version.columns) s.entry
+  of_shape : (s : Standing rules.definitions source) (d : Definition) (q : Planned) → Has rules.definitions d → Has d.queries q → IsShape d q (keyed_row s.key s.version.columns) s.entry
       → IsBucketOf rules.definitions asker (rows_in source) s.entry.bucket → IsGranted s
   of_shape s d q i j shape b =
-      let row = row_of s.key s.version.columns in
+      let row = keyed_row s.key s.version.columns in
       let k = contains_has rules.definitions b.0 b.2 in
       let bucket : bucket_name_of d.name shape.values ≡ bucket_name_of b.0.name b.1 = ap (λ (z : Placed). z.bucket) shape.is ∙ b.4 in
       let one : b.0 ≡ d = same_named rules.definitions b.0 d are.names_differ k i
       (differ b.0.name d.name b.1 shape.values (sound_at b.0 k).name (sound_at d i).name (sql b.0 b.1 b.2 b.3) (sym bucket)).0 in
       let own : Has (vectors d) b.1 = subst (λ (z : Definition). Has (vectors z) b.1) one (contains_has (vectors b.0) b.1 b.3) in
-      let entry : entry_of d q row shape.object b.1 ≡ s.entry =
+      let entry : vector_entry d q row shape.object b.1 ≡ s.entry =
       ap (placed_in q row shape.object) (ap (λ (z : Definition). bucket_name_of z.name b.1) (sym one) ∙ sym bucket) ∙ shape.is in
       let vector = is_vector s.key s.version d q shape.object b.1 i j own shape.table shape.shows in
       let holds_there = Holds_holds (with_vector s.key.1 s.version.columns d.names b.1) q.query.condition
@@ -365,7 +365,7 @@ module _ (rules : RuleSet) (asker : Asker) (source : Source) (are : AreRules rul
   -- an entry that stands in a bucket of the asker's has a copy
   pub stands_granted : (s : Standing rules.definitions source) → IsBucketOf rules.definitions asker (rows_in source) s.entry.bucket → IsGranted s
   stands_granted s b =
-      let row = row_of s.key s.version.columns in
+      let row = keyed_row s.key s.version.columns in
       let d = from_flat (definition_entries row) rules.definitions s.entry (contains_has (entries_of rules.definitions row) s.entry s.is_entry) in
       let q = from_flat (query_entries d.0 row) d.0.queries s.entry d.2 in
       of_shape s d.0 q.0 d.1 q.1 (query_shape d.0 q.0 row s.entry q.2) b

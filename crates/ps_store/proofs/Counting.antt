@@ -25,8 +25,8 @@ use Rattle.ps_bucket_log.specs.declared.ops.Op.{Op}
 use Rattle.ps_bucket_log.specs.Logs.{LogState, IsRising}
 use Rattle.ps_bucket_log.specs.Ops.{id_of, checksum, sum_of, upto, newest}
 use Rattle.ps_store.specs.Originals.{Entered, in_bucket}
-use Rattle.ps_store.specs.StoreLogs.{ops_of as ops_in, has_ops, first_ops, with_op, AreRising}
-use Rattle.ps_store.specs.Totals.{names_of, ops_of}
+use Rattle.ps_store.specs.StoreLogs.{log_ops as ops_in, has_ops, first_ops, with_op, AreRising}
+use Rattle.ps_store.specs.Totals.{buckets_entered, entered_ops}
 use Rattle.ps_store.proofs.Filling.{in_bucket_cons, in_bucket_append}
 use Rattle.ps_store.proofs.Maps.{equal}
 use Rattle.ps_store.proofs.Upto.{all_upto}
@@ -34,22 +34,22 @@ use Rattle.ps_store.proofs.Upto.{all_upto}
 -- ---- sums
 
 pub sum_more : (es : List Entered) (i : ℕ) (e : Entered) → i < length es → e ≡ get_or es i e
-    → sum_of (ops_of (take (i + 1) es)) ≡ (sum_of (ops_of (take i es)) + checksum e.op) % 2 ^ 32
+    → sum_of (entered_ops (take (i + 1) es)) ≡ (sum_of (entered_ops (take i es)) + checksum e.op) % 2 ^ 32
 sum_more es i e within is =
-    ap (λ (xs : List Entered). sum_of (ops_of xs)) (take_more es i e within ∙ ap (λ (x : Entered). take i es ++ x ∷ []) (sym is))
+    ap (λ (xs : List Entered). sum_of (entered_ops xs)) (take_more es i e within ∙ ap (λ (x : Entered). take i es ++ x ∷ []) (sym is))
     ∙ ap sum_of (map-append (λ (x : Entered). x.op) (take i es) (e ∷ []))
-    ∙ ap (λ (n : ℕ). n % 2 ^ 32) (sum_by_push checksum (ops_of (take i es)) e.op)
-    ∙ sym (mod-add-mod (sum_by checksum (ops_of (take i es))) (2 ^ 32) (checksum e.op))
+    ∙ ap (λ (n : ℕ). n % 2 ^ 32) (sum_by_push checksum (entered_ops (take i es)) e.op)
+    ∙ sym (mod-add-mod (sum_by checksum (entered_ops (take i es))) (2 ^ 32) (checksum e.op))
 
 swapped : (a b : ℕ) → a + b ≡ b + a
 swapped a b = omega arith
 
-pub sum_append : (xs ys : List Entered) → sum_of (ops_of (xs ++ ys)) ≡ (sum_of (ops_of xs) + sum_of (ops_of ys)) % 2 ^ 32
+pub sum_append : (xs ys : List Entered) → sum_of (entered_ops (xs ++ ys)) ≡ (sum_of (entered_ops xs) + sum_of (entered_ops ys)) % 2 ^ 32
 sum_append xs ys =
-    let a : ℕ = sum_by checksum (ops_of xs) in
-    let b : ℕ = sum_by checksum (ops_of ys) in
+    let a : ℕ = sum_by checksum (entered_ops xs) in
+    let b : ℕ = sum_by checksum (entered_ops ys) in
     ap sum_of (map-append (λ (x : Entered). x.op) xs ys)
-    ∙ ap (λ (n : ℕ). n % 2 ^ 32) (sum_by-append checksum (ops_of xs) (ops_of ys) ∙ swapped a b)
+    ∙ ap (λ (n : ℕ). n % 2 ^ 32) (sum_by-append checksum (entered_ops xs) (entered_ops ys) ∙ swapped a b)
     ∙ sym (mod-add-mod b (2 ^ 32) a)
     ∙ ap (λ (n : ℕ). n % 2 ^ 32) (swapped (b % 2 ^ 32) a)
     ∙ sym (mod-add-mod a (2 ^ 32) (b % 2 ^ 32))
@@ -162,7 +162,7 @@ has_from (e ∷ es) names q =
     or_moved false b c = refl
 
 -- a bucket is named where it has an operation
-pub has_names : (es : List Entered) (q : List ℕ) → has (names_of es) q ≡ has_ops (in_bucket q es)
+pub has_names : (es : List Entered) (q : List ℕ) → has (buckets_entered es) q ≡ has_ops (in_bucket q es)
 has_names es q = has_from es [] q
 
 sorted_from : (es : List Entered) (names : List (List ℕ)) → IsStrictlySortedBy order names → IsStrictlySortedBy order (names_from names es)
@@ -173,10 +173,10 @@ sorted_nil : IsStrictlySortedBy order []
 unfolding IsStrictlySortedBy
 sorted_nil = tt
 
-pub sorted_names : (es : List Entered) → IsStrictlySortedBy order (names_of es)
+pub sorted_names : (es : List Entered) → IsStrictlySortedBy order (buckets_entered es)
 sorted_names es = sorted_from es [] sorted_nil
 
-names_push : (es : List Entered) (e : Entered) → names_of (es ++ e ∷ []) ≡ insert_key order (names_of es) e.bucket
+names_push : (es : List Entered) (e : Entered) → buckets_entered (es ++ e ∷ []) ≡ insert_key order (buckets_entered es) e.bucket
 names_push es e = fold-append (λ names (x : Entered). insert_key order names x.bucket) [] es (e ∷ [])
 
 -- there are no more than operations
@@ -192,7 +192,7 @@ low_from (e ∷ es) names h =
     by true rest one = omega (arith, rest, one)
     by false rest one = omega (arith, rest, one)
 
-pub low_names : (es : List Entered) → length (names_of es) ≤ length es
+pub low_names : (es : List Entered) → length (buckets_entered es) ≤ length es
 low_names es = let low = low_from es [] sorted_nil in omega (arith, low)
 
 -- ---- first operations
@@ -258,16 +258,16 @@ filled_with logs entered e h bucket = by (bytes_eq bucket e.bucket) ∙ ap (λ (
     by true = has_ops_append (logs bucket) (e.op ∷ [])
     by false = sym (or_none (has_ops (logs bucket)))
 
-pub names_more : (es entered : List Entered) (logs : List ℕ → List Op) → AreFilled logs entered → length (names_of (entered ++ es)) ≡ length (names_of entered) + first_ops logs es
+pub names_more : (es entered : List Entered) (logs : List ℕ → List Op) → AreFilled logs entered → length (buckets_entered (entered ++ es)) ≡ length (buckets_entered entered) + first_ops logs es
 names_more [] entered logs h =
-    let none : length (names_of entered) ≡ length (names_of entered) + 0 = omega arith in
-    ap (λ (xs : List Entered). length (names_of xs)) (append-nil entered) ∙ none
+    let none : length (buckets_entered entered) ≡ length (buckets_entered entered) + 0 = omega arith in
+    ap (λ (xs : List Entered). length (buckets_entered xs)) (append-nil entered) ∙ none
 names_more (e ∷ es) entered logs h =
     let rest = names_more es (entered ++ e ∷ []) (with_op logs e) (filled_with logs entered e h) in
-    let one : length (names_of (entered ++ e ∷ [])) ≡ length (names_of entered) + (if has_ops (logs e.bucket) then 0 else 1) =
-    ap length (names_push entered e) ∙ length_insert (names_of entered) e.bucket (sorted_names entered)
-    ∙ ap (λ (b : Bool). length (names_of entered) + (if b then 0 else 1)) (has_names entered e.bucket ∙ sym (h e.bucket)) in
-    let all : names_of (entered ++ e ∷ es) ≡ names_of ((entered ++ e ∷ []) ++ es) = ap names_of (sym (append_assoc entered (e ∷ []) es)) in
+    let one : length (buckets_entered (entered ++ e ∷ [])) ≡ length (buckets_entered entered) + (if has_ops (logs e.bucket) then 0 else 1) =
+    ap length (names_push entered e) ∙ length_insert (buckets_entered entered) e.bucket (sorted_names entered)
+    ∙ ap (λ (b : Bool). length (buckets_entered entered) + (if b then 0 else 1)) (has_names entered e.bucket ∙ sym (h e.bucket)) in
+    let all : buckets_entered (entered ++ e ∷ es) ≡ buckets_entered ((entered ++ e ∷ []) ++ es) = ap buckets_entered (sym (append_assoc entered (e ∷ []) es)) in
     omega (arith, ap length all, rest, one)
 
 pub filled_append : (logs : List ℕ → List Op) (entered es : List Entered) → AreFilled logs entered → AreFilled (λ bucket. logs bucket ++ in_bucket bucket es) (entered ++ es)

@@ -18,12 +18,12 @@ use Rattle.ps_bucket_log.specs.declared.ops.Op.{Op}
 use Rattle.ps_compact.specs.Laws.{CompactedStands}
 use Rattle.ps_bucket_log.specs.Laws.{GrowsLater, StandsLater, StandsForItself}
 use Rattle.ps_rows.specs.declared.changes.Transaction.{Transaction}
-use Rattle.ps_write_cp.specs.Kept.{Rises as HeadsRise}
+use Rattle.ps_write_cp.specs.Kept.{HeadsNeverFall as HeadsRise}
 use Rattle.ps_write_cp.specs.Laws.{HasHead, IsGreatestReached, CoveredIsGreatest, CoversAllBefore}
-use Rattle.ps_write_cp.specs.Numbers.{Made, is_of, covered}
+use Rattle.ps_write_cp.specs.Numbers.{Made, is_of_client, covered}
 use Rattle.ps_queries.specs.declared.askers.Asker.{Asker}
 use Rattle.ps_definitions.specs.declared.definitions.Definition.{Definition}
-use Rattle.ps_definitions.specs.RuleSets.{RuleSet, AreRules, IsSound as IsSoundDefinition}
+use Rattle.ps_definitions.specs.RuleSets.{RuleSet, AreRules, IsSoundDefinition as IsSoundDefinition}
 use Rattle.ps_queries.specs.Vectors.{SourceRow}
 use Rattle.ps_definitions.specs.Vectors.{parameter_vectors}
 use Rattle.ps_granted.specs.Sources.{rows_in}
@@ -33,13 +33,13 @@ use Rattle.ps_store.specs.declared.events.Event.{Event}
 use Rattle.ps_store.specs.declared.events.Event.TheVariants.{WriteCheckpoint}
 use Rattle.ps_bucket_log.specs.declared.takes.TakenBucket.{TakenBucket}
 use Rattle.ps_store.specs.CourseLaws.{IsLawful, AreApart, HoldsTaken, PlacesStay, EndsAreWhole}
-use Rattle.ps_store.specs.Courses.{Course, Upload, ledger_at, course_of, upload_of, uploads_from, uploads_of, bucket_in, is_in}
+use Rattle.ps_store.specs.Courses.{Course, Upload, ledger_at, course_of, upload_of, uploads_from, uploads_of, bucket_in, has_taken_bucket}
 use Rattle.ps_store.specs.Laws.{Rises as RisesFrom, HaveNumbers, AreSqlVectors, IsBucketOf}
-use Rattle.ps_store.specs.Ledgers.{Ledger, fresh, head_of, heads_in, last_number, made_by, ledger_after, ledger_of, IsLegalFrom, IsLegal}
+use Rattle.ps_store.specs.Ledgers.{Ledger, fresh_ledger, head_of, heads_in, last_number, made_by, ledger_after, ledger_of, IsLegalFrom, IsLegal}
 use Rattle.ps_store.specs.Limits.{greatest}
 use Rattle.ps_store.specs.LedgerLaws.{checkpoint_held, checkpoint_source, CommittedRowsAreDue}
-use Rattle.ps_store.specs.Generations.{mark_of, is_of as in_generation, Ending, Ended, Switched, Abandoned, ending_of}
-use Rattle.ps_store.specs.Readings.{with_mark, names_of, IsToldBehindMark, AreTold, bucket_upto, covered_of, heads_for}
+use Rattle.ps_store.specs.Generations.{mark_of, is_of_generation as in_generation, Ending, Ended, Switched, Abandoned, ending_of}
+use Rattle.ps_store.specs.Readings.{with_mark, asker_bucket_names, IsToldBehindMark, AreToldBehindMark, bucket_upto, covered_of, heads_for}
 use Rattle.ps_store.specs.Standing.{Holding}
 use Rattle.ps_store.specs.StepLaws.{HoldsLaneBuckets, transactions_upto}
 use Rattle.ps_store.proofs.Committed.{asked_of}
@@ -89,19 +89,19 @@ module _ (op : ℕ) (log : List ℕ → List Op) where
           sym same ∙ ap (λ (n : List ℕ). bucket_upto op n (log n)) (sym ((bytes_eq-Decides name q).0 e))
       by false e is rest = rest is
 
-  is_told : (names : List (List ℕ)) (name : List ℕ) → Has names name → is_in (told names) name ≡ true
+  is_told : (names : List (List ℕ)) (name : List ℕ) → Has names name → has_taken_bucket (told names) name ≡ true
   is_told [] name h = absurd h
   is_told (q ∷ names) name h = by (bytes_eq name q) refl (is_told names name)
     where
-      by : (b : Bool) → bytes_eq name q ≡ b → (Has names name → is_in (told names) name ≡ true) → is_some (if b then Some (bucket_upto op q (log q)) else bucket_in name (told names)) ≡ true
+      by : (b : Bool) → bytes_eq name q ≡ b → (Has names name → has_taken_bucket (told names) name ≡ true) → is_some (if b then Some (bucket_upto op q (log q)) else bucket_in name (told names)) ≡ true
       by true e rest = refl
       by false e rest = elim h [ inl same ↦ absurd (let there : bytes_eq name q ≡ true = (bytes_eq-Decides name q).1 (sym same) in cc) | inr t ↦ rest t ]
 
-  from_told : (names : List (List ℕ)) (name : List ℕ) → is_in (told names) name ≡ true → Has names name
+  from_told : (names : List (List ℕ)) (name : List ℕ) → has_taken_bucket (told names) name ≡ true → Has names name
   from_told [] name h = absurd (cc)
   from_told (q ∷ names) name h = by (bytes_eq name q) refl h (from_told names name)
     where
-      by : (b : Bool) → bytes_eq name q ≡ b → is_some (if b then Some (bucket_upto op q (log q)) else bucket_in name (told names)) ≡ true → (is_in (told names) name ≡ true → Has names name) → Has (q ∷ names) name
+      by : (b : Bool) → bytes_eq name q ≡ b → is_some (if b then Some (bucket_upto op q (log q)) else bucket_in name (told names)) ≡ true → (has_taken_bucket (told names) name ≡ true → Has names name) → Has (q ∷ names) name
       by true e is rest = inl (sym ((bytes_eq-Decides name q).0 e))
       by false e is rest = inr (rest is)
 
@@ -137,7 +137,7 @@ module _ (definitions : List Definition) (asker : Asker) (rows : List SourceRow)
       (has_map (bucket_name_of b.0.name) (parameter_vectors b.0 asker rows) b.1 (contains_has (parameter_vectors b.0 asker rows) b.1 b.3))))
 
   -- their names tell that the vectors are of integers of 64 bits
-  vectors_told : (number : ℕ) → number ≤ greatest → AllByRecursion IsSoundDefinition definitions → AreTold (with_mark number (bucket_names definitions asker rows)) → AreSqlVectors definitions asker rows
+  vectors_told : (number : ℕ) → number ≤ greatest → AllByRecursion IsSoundDefinition definitions → AreToldBehindMark (with_mark number (bucket_names definitions asker rows)) → AreSqlVectors definitions asker rows
   vectors_told number low sound names definition values i j =
       let plain = bucket_name_of definition.name values in
       let there : Has (with_mark number (bucket_names definitions asker rows)) (mark_of number ++ plain) =
@@ -271,10 +271,10 @@ module _ (grows : GrowsLater) (stands : StandsLater) (itself : StandsForItself) 
   here = ledger_at rules history n
 
   sound_here : IsSound here
-  sound_here = sound_at grows stands itself compacts history (fresh rules) n legal (sound_fresh grows stands itself compacts rules)
+  sound_here = sound_at grows stands itself compacts history (fresh_ledger rules) n legal (sound_fresh grows stands itself compacts rules)
 
   till_end : IsLater here (ledger_of rules history)
-  till_end = later_end grows stands itself compacts history (fresh rules) n legal (sound_fresh grows stands itself compacts rules)
+  till_end = later_end grows stands itself compacts history (fresh_ledger rules) n legal (sound_fresh grows stands itself compacts rules)
 
   pub uploads_covered : CoveredIsGreatest → CoversAllBefore → (upload : Upload) → Contains (uploads_of (ledger_of rules history) asker) upload
       → IfSome (covered_of here asker) (λ number. upload.number ≤ number → upload.position ≤ here.position)
@@ -306,22 +306,22 @@ module _ (laws : StoreLaws) (rules : RuleSet) (history : List Event) (asker : As
   place n = ledger_at rules history n
 
   sound : (n : ℕ) → IsSound (place n)
-  sound n = sound_at laws.grows laws.stands laws.buckets.itself laws.compacted history (fresh rules) n legal (sound_fresh laws.grows laws.stands laws.buckets.itself laws.compacted rules)
+  sound n = sound_at laws.grows laws.stands laws.buckets.itself laws.compacted history (fresh_ledger rules) n legal (sound_fresh laws.grows laws.stands laws.buckets.itself laws.compacted rules)
 
   later : (n m : ℕ) → n ≤ m → IsLater (place n) (place m)
-  later n m low = later_at laws.grows laws.stands laws.buckets.itself laws.compacted history (fresh rules) n m legal (sound_fresh laws.grows laws.stands laws.buckets.itself laws.compacted rules) low
+  later n m low = later_at laws.grows laws.stands laws.buckets.itself laws.compacted history (fresh_ledger rules) n m legal (sound_fresh laws.grows laws.stands laws.buckets.itself laws.compacted rules) low
 
   legal_place : (n : ℕ) → IsLegal rules (take n history)
-  legal_place n = legal_at history (fresh rules) n legal
+  legal_place n = legal_at history (fresh_ledger rules) n legal
 
   well : (n : ℕ) → IsWell (place n)
-  well n = well_at history (fresh rules) n legal (well_fresh rules are numbers)
+  well n = well_at history (fresh_ledger rules) n legal (well_fresh rules are numbers)
 
   goes : (n m : ℕ) → n ≤ m → GoesOn (place n) (place m)
-  goes n m low = goes_at history (fresh rules) n m legal (well_fresh rules are numbers) low
+  goes n m low = goes_at history (fresh_ledger rules) n m legal (well_fresh rules are numbers) low
 
   last_low : (n : ℕ) → (place n).last ≤ greatest
-  last_low n = last_at history (fresh rules) n legal (omega arith)
+  last_low n = last_at history (fresh_ledger rules) n legal (omega arith)
 
   -- ---- names
 
@@ -332,14 +332,14 @@ module _ (laws : StoreLaws) (rules : RuleSet) (history : List Event) (asker : As
   plain_names n = bucket_names (place n).force.rules.definitions asker (rows n)
 
   -- a name of a take is of the generation in force
-  named_of : (n : ℕ) (name : List ℕ) → Has (names_of (place n) asker) name → in_generation (place n).force.number name ≡ true
+  named_of : (n : ℕ) (name : List ℕ) → Has (asker_bucket_names (place n) asker) name → in_generation (place n).force.number name ≡ true
   named_of n name h =
       let r = from_map (λ (x : List ℕ). mark_of (place n).force.number ++ x) (plain_names n) name h in
       subst (λ (x : List ℕ). in_generation (place n).force.number x ≡ true) r.2
       (asked_of (place n).force.rules (place n).force.number asker (rows n) r.0 (well n).force.are (is_bucket (place n).force.rules.definitions asker (rows n) r.0 r.1))
 
   taken_of : (n : ℕ) (name : List ℕ) (bucket : TakenBucket) → bucket_in name (course.take n).buckets ≡ Some bucket → in_generation (place n).force.number name ≡ true
-  taken_of n name bucket is = named_of n name (from_told (place n).op (place n).log (names_of (place n) asker) name (ap is_some is))
+  taken_of n name bucket is = named_of n name (from_told (place n).op (place n).log (asker_bucket_names (place n) asker) name (ap is_some is))
 
   within_op : (n : ℕ) (name : List ℕ) → EndsWithin (place n).op (ending_of name (place n).ended)
   within_op n name = find (place n).ended (sound n).ended
@@ -379,7 +379,7 @@ module _ (laws : StoreLaws) (rules : RuleSet) (history : List Event) (asker : As
     newest_low = λ n name. omega (arith, (sound n).newest_low name, last_low n);
     sums = λ n name. (sound n).sums name;
     takes = λ n name bucket is.
-        let told_is = told_by (place n).op (place n).log (names_of (place n) asker) name bucket is in
+        let told_is = told_by (place n).op (place n).log (asker_bucket_names (place n) asker) name bucket is in
         record {
           lives = lives (place n) name (well n) (taken_of n name bucket is);
           sum = ap (λ (b : TakenBucket). b.sum.0) told_is;
@@ -399,36 +399,36 @@ module _ (laws : StoreLaws) (rules : RuleSet) (history : List Event) (asker : As
     holds_buckets : HoldsLaneBuckets (mark_of number) definitions asker (rows n) (checkpoint_held rules (take n history)) held
     holds_buckets = record {
       own = λ bucket is key. holds.own (mark_of number ++ bucket)
-          (is_told (place n).op (place n).log (names_of (place n) asker) (mark_of number ++ bucket)
+          (is_told (place n).op (place n).log (asker_bucket_names (place n) asker) (mark_of number ++ bucket)
           (has_map (λ (name : List ℕ). mark_of number ++ name) (plain_names n) bucket (has_bucket definitions asker (rows n) bucket is))) key;
-      only = λ bucket key some. by bucket key some (is_in (course.take n).buckets bucket) refl;
+      only = λ bucket key some. by bucket key some (has_taken_bucket (course.take n).buckets bucket) refl;
     }
       where
-        by : (bucket : List ℕ) (key : Key) → held bucket key ≢ None → (b : Bool) → is_in (course.take n).buckets bucket ≡ b
+        by : (bucket : List ℕ) (key : Key) → held bucket key ≢ None → (b : Bool) → has_taken_bucket (course.take n).buckets bucket ≡ b
             → (name : List ℕ) × (bucket ≡ mark_of number ++ name) × IsBucketOf definitions asker (rows n) name
         by bucket key some true is =
-            let r = from_map (λ (name : List ℕ). mark_of number ++ name) (plain_names n) bucket (from_told (place n).op (place n).log (names_of (place n) asker) bucket is) in
+            let r = from_map (λ (name : List ℕ). mark_of number ++ name) (plain_names n) bucket (from_told (place n).op (place n).log (asker_bucket_names (place n) asker) bucket is) in
             (r.0, sym r.2, is_bucket definitions asker (rows n) r.0 r.1)
         by bucket key some false is = absurd (some (holds.only bucket is key))
 
-  names_rise : (n : ℕ) → Rises name_cmp (names_of (place n) asker)
+  names_rise : (n : ℕ) → Rises name_cmp (asker_bucket_names (place n) asker)
   names_rise n = marked_rise (place n).force.number (plain_names n) (in_order_rises (flat_map (definition_names asker (rows n)) (place n).force.rules.definitions))
 
   keeps_takes : KeepsTakes course (λ n bucket. (place n).log bucket)
   keeps_takes = record {
     op = λ n. refl;
     number = λ n. numbers_low laws.grows laws.stands laws.buckets.itself laws.compacted rules history asker n legal laws.greatest;
-    rise = λ n. subst (IsStrictlySortedBy (slice_cmp nat_cmp)) (names_kept (place n).op (place n).log (names_of (place n) asker)) (rises_sorted name_cmp (names_of (place n) asker) (names_rise n));
-    apart = λ n. told_apart (place n).op (place n).log (names_of (place n) asker) (names_rise n);
+    rise = λ n. subst (IsStrictlySortedBy (slice_cmp nat_cmp)) (names_kept (place n).op (place n).log (asker_bucket_names (place n) asker)) (rises_sorted name_cmp (asker_bucket_names (place n) asker) (names_rise n));
+    apart = λ n. told_apart (place n).op (place n).log (asker_bucket_names (place n) asker) (names_rise n);
     position = λ n m low. (goes n m low).position;
     position_low = λ n. (tells_reach rules (take n history) (legal_place n)).checkpoint.fed;
-    head_low = λ n. head_at (take n history) (fresh rules) (legal_place n) (omega arith);
-    taken = λ n. all_told (place n).op (place n).log (names_of (place n) asker);
+    head_low = λ n. head_at (take n history) (fresh_ledger rules) (legal_place n) (omega arith);
+    taken = λ n. all_told (place n).op (place n).log (asker_bucket_names (place n) asker);
     rows = λ n held shown told holds shows.
         let w = well n in
         let wide : AreSqlVectors (place n).force.rules.definitions asker (rows n) =
         vectors_told (place n).force.rules.definitions asker (rows n) (place n).force.number (omega (arith, w.force.begun_is, w.begun_low)) w.force.are.sound
-        (subst AreTold (sym (names_kept (place n).op (place n).log (names_of (place n) asker))) told) in
+        (subst AreToldBehindMark (sym (names_kept (place n).op (place n).log (asker_bucket_names (place n) asker))) told) in
         laws.rows rules (take n history) asker held shown are numbers (legal_place n) wide (holds_buckets n held holds) shows;
     covers = λ n upload is. uploads_covered laws.grows laws.stands laws.buckets.itself laws.compacted rules history asker n legal laws.greatest laws.before upload is;
   }
@@ -449,22 +449,22 @@ module _ (grows : GrowsLater) (stands : StandsLater) (itself : StandsForItself) 
   pub uploads_fed : (t : Transaction) → asker.client ≡ Some client → IsLegal rules all → Contains early.fed t
       → Contains (uploads_of (ledger_of rules all) asker) (upload_of (last_number early asker.user client + 1) t)
   uploads_fed t own legal is =
-      let parts = legal_parts front (WriteCheckpoint asker.user client ∷ back) (fresh rules) legal in
-      let sound_early : IsSound early = sound_all front (fresh rules) parts.0 (sound_fresh grows stands itself compacts rules) in
+      let parts = legal_parts front (WriteCheckpoint asker.user client ∷ back) (fresh_ledger rules) legal in
+      let sound_early : IsSound early = sound_all front (fresh_ledger rules) parts.0 (sound_fresh grows stands itself compacts rules) in
       let sound_asked : IsSound asked = sound_after grows stands itself compacts early (WriteCheckpoint asker.user client) parts.1.0 sound_early in
       let later : IsLater asked (fold ledger_after asked back) = later_whole grows stands itself compacts back asked parts.1.1 sound_asked in
-      let end : ledger_of rules all ≡ fold ledger_after asked back = fold-append ledger_after (fresh rules) front (WriteCheckpoint asker.user client ∷ back) in
+      let end : ledger_of rules all ≡ fold ledger_after asked back = fold-append ledger_after (fresh_ledger rules) front (WriteCheckpoint asker.user client ∷ back) in
       let heads : List Position = heads_in early asker.user client in
       let head : Position = record { 0 = head_of early.fed } in
       let made : Made = made_by asker.user client early.fed in
-      let mine : is_of asker.user client made ≡ true = and_from (bytes_eq asker.user asker.user) (bytes_eq client client) ((bytes_eq-Decides asker.user asker.user).1 refl) ((bytes_eq-Decides client client).1 refl) in
+      let mine : is_of_client asker.user client made ≡ true = and_from (bytes_eq asker.user asker.user) (bytes_eq client client) ((bytes_eq-Decides asker.user asker.user).1 refl) ((bytes_eq-Decides client client).1 refl) in
       let more = later.heads asker.user client in
       let all_heads : heads_in (fold ledger_after asked back) asker.user client ≡ heads ++ head ∷ more.0 =
       more.1 ∙ ap (λ (hs : List Position). hs ++ more.0) (heads_push asker.user client made early.numbers ∙ ap (λ (b : Bool). heads ++ (if b then head ∷ [] else [])) mine)
       ∙ append_assoc heads (head ∷ []) more.0 in
       let at : slice_get (heads_in (fold ledger_after asked back) asker.user client) (length heads) ≡ Some head = ap (λ (hs : List Position). slice_get hs (length heads)) all_heads ∙ next_head heads more.0 head in
       let there : Has (fold ledger_after asked back).fed t = subst (λ (fed : List Transaction). Has fed t) (sym later.fed.1) (has_left early.fed later.fed.0 t (contains_has early.fed t is)) in
-      let low : t.position.0 ≤ head.0 = fed_low early.fed 0 t (rises_at front (fresh rules) parts.0 tt) (contains_has early.fed t is) in
+      let low : t.position.0 ≤ head.0 = fed_low early.fed 0 t (rises_at front (fresh_ledger rules) parts.0 tt) (contains_has early.fed t is) in
       let number : 1 + length heads ≡ length heads + 1 = omega arith in
       has_contains (uploads_of (ledger_of rules all) asker) (upload_of (length heads + 1) t)
       (subst (λ (l : Ledger). Has (uploads_of l asker) (upload_of (length heads + 1) t)) (sym end)

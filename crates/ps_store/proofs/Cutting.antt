@@ -8,7 +8,7 @@ use Rattle.ps_rows.specs.Source.{Source}
 use Rattle.ps_definitions.specs.declared.definitions.Definition.{Definition}
 use Rattle.ps_store.specs.Ledgers.{newest_of}
 use Rattle.ps_store.specs.Originals.{Entered, Timed, after, change_ops, in_bucket}
-use Rattle.ps_store.specs.Steps.{Step, marked, lane_ops, source_after, steps_upto, changes_of}
+use Rattle.ps_store.specs.Steps.{Step, marked, lane_ops, source_after, steps_upto, step_changes}
 use Rattle.ps_store.proofs.Filling.{in_bucket_append}
 use Rattle.ps_store.proofs.Fronts.{not_le, is_le, past_from, Climbs}
 use Rattle.ps_store.proofs.Generating.{IdsFrom}
@@ -93,14 +93,14 @@ cut_past p c last definitions ss t past low h =
     cut_push p c definitions [] ss (record { first = last + 1; timed = t }) h (subst (λ (b : Bool). Cut b c ops) (sym (not_le t.position p past)) own)
 
 -- all of them are up to both
-pub cut_whole : (p c : ℕ) (definitions : List Definition) (source : Source) (ss : List Step) → AllUpTo p (changes_of ss) → StepsBelow c definitions source ss → StepsCut p c definitions source ss
+pub cut_whole : (p c : ℕ) (definitions : List Definition) (source : Source) (ss : List Step) → AllUpTo p (step_changes ss) → StepsBelow c definitions source ss → StepsCut p c definitions source ss
 cut_whole p c definitions source [] all h = tt
 cut_whole p c definitions source (s ∷ ss) all h =
     (subst (λ (b : Bool). Cut b c (change_ops definitions source s.first s.timed)) (sym (is_le s.timed.position p all.0)) h.0, cut_whole p c definitions (after source s.timed) ss all.1 h.1)
 
 -- ---- what is up to an id
 
-none_later : (p q : ℕ) (ss : List Step) → Climbs q (changes_of ss) → p < q → steps_upto p ss ≡ []
+none_later : (p q : ℕ) (ss : List Step) → Climbs q (step_changes ss) → p < q → steps_upto p ss ≡ []
 none_later p q [] h less = refl
 none_later p q (s ∷ ss) h less =
     ap (λ b. cond b (s ∷ steps_upto p ss) (steps_upto p ss)) (not_le s.timed.position p (omega (arith, h.0, less)))
@@ -109,7 +109,7 @@ none_later p q (s ∷ ss) h less =
 upto_append : (c : ℕ) (xs ys : List Op) → upto c (xs ++ ys) ≡ upto c xs ++ upto c ys
 upto_append c xs ys = filter-append (λ (o : Op). nat_le (id_of o) c) xs ys
 
-pub cut_upto : (mark bucket : List ℕ) (p c q : ℕ) (definitions : List Definition) (source : Source) (ss : List Step) → Climbs q (changes_of ss) → StepsCut p c definitions source ss
+pub cut_upto : (mark bucket : List ℕ) (p c q : ℕ) (definitions : List Definition) (source : Source) (ss : List Step) → Climbs q (step_changes ss) → StepsCut p c definitions source ss
     → upto c (in_bucket bucket (lane_ops mark definitions source ss)) ≡ in_bucket bucket (lane_ops mark definitions source (steps_upto p ss))
 cut_upto mark bucket p c q definitions source [] climbs h = refl
 cut_upto mark bucket p c q definitions source (s ∷ ss) climbs h =
@@ -134,7 +134,7 @@ cut_upto mark bucket p c q definitions source (s ∷ ss) climbs h =
         ∙ sym (ap (λ (us : List Step). in_bucket bucket (lane_ops mark definitions source us)) none)
 
 -- the first steps go on as all of them do
-pub front_from : (p : ℕ) (definitions : List Definition) (source : Source) (next position index : ℕ) (ss : List Step) → Climbs position (changes_of ss) → StepsFrom definitions source next position index ss
+pub front_from : (p : ℕ) (definitions : List Definition) (source : Source) (next position index : ℕ) (ss : List Step) → Climbs position (step_changes ss) → StepsFrom definitions source next position index ss
     → StepsFrom definitions source next position index (steps_upto p ss)
 front_from p definitions source next position index [] climbs h = tt
 front_from p definitions source next position index (s ∷ ss) climbs h =

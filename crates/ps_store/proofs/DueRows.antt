@@ -7,13 +7,13 @@ use Rattle.ps_bucket_log.specs.declared.ops.Op.{Op}
 use Rattle.ps_bucket_log.specs.Ops.{id_of}
 use Rattle.ps_rows.specs.declared.shown.Shown.{Shown}
 use Rattle.ps_rows.specs.Source.{Key, key_cmp, Source}
-use Rattle.ps_client_log.specs.Rows.{HeldCopy, content_of, row_at}
+use Rattle.ps_client_log.specs.Rows.{HeldCopy, content_of, shown_at}
 use Rattle.ps_client_log.specs.Rows as held_rows
 use Rattle.ps_queries.specs.declared.askers.Asker.{Asker}
 use Rattle.ps_definitions.specs.declared.definitions.Definition.{Definition}
 use Rattle.ps_granted.specs.declared.copies.Granted.{Granted}
 use Rattle.ps_granted.specs.Grants.{granted}
-use Rattle.ps_granted.specs.Latest.{object_of, is_later, shown_of, IsLatest, row_object, by_object, AreLatest}
+use Rattle.ps_granted.specs.Latest.{granted_object, is_later, shown_of, IsLatest, row_object, by_object, AreLatest}
 use Rattle.ps_granted.specs.Sources.{rows_in}
 use Rattle.ps_bucket_eval.specs.declared.placed.Placed.{Placed}
 use Rattle.ps_store.specs.Standing.{Holding, Standing, IsPutOf, is_before, HoldsStanding, IsCopyOf}
@@ -38,10 +38,10 @@ not_some None none some = let wrong : false ≡ true = some in cc
 not_some (Some x) none some = let wrong : Some x ≡ None = none in cc
 
 -- an object that has data has a row
-row_there : (rows : List Shown) (o : Key) → IsSome (row_at o rows) → (row : Shown) × Contains rows row × (row_object row ≡ o)
-row_there rows o some = by_found (row_at o rows) refl where
-  by_found : (found : Option (List ℕ)) → row_at o rows ≡ found → (row : Shown) × Contains rows row × (row_object row ≡ o)
-  by_found None e = absurd (not_some (row_at o rows) e some)
+row_there : (rows : List Shown) (o : Key) → IsSome (shown_at o rows) → (row : Shown) × Contains rows row × (row_object row ≡ o)
+row_there rows o some = by_found (shown_at o rows) refl where
+  by_found : (found : Option (List ℕ)) → shown_at o rows ≡ found → (row : Shown) × Contains rows row × (row_object row ≡ o)
+  by_found None e = absurd (not_some (shown_at o rows) e some)
   by_found (Some x) e =
       let r = from_map entry_of rows (o, x) (from_find (by_object rows) o x e) in
       (r.0, has_contains rows r.0 r.1, ap (λ z. z.0) r.2)
@@ -73,7 +73,7 @@ module _ (definitions : List Definition) (asker : Asker) (source : Source) (mark
   is_held : (s : Standing definitions source) → IsBucketOf definitions asker (rows_in source) s.entry.bucket → IsHeld kept (copy_held s)
   is_held s b = holds.own s.entry.bucket b s.entry.key ∙ (standing.each s).1
 
-  object_same : (s : Standing definitions source) (c : Granted) → IsCopyOf s c → held_rows.object_of (copy_held s) ≡ object_of c
+  object_same : (s : Standing definitions source) (c : Granted) → IsCopyOf s c → held_rows.object_of (copy_held s) ≡ granted_object c
   object_same s c is = λ i. (is.kind i, is.id i)
 
   before_is : (s t : Standing definitions source) (c d : Granted) → IsCopyOf s c → IsCopyOf t d → is_before s t ≡ is_later d c
@@ -84,8 +84,8 @@ module _ (definitions : List Definition) (asker : Asker) (source : Source) (mark
   put_content entry op is = ap content_of is.1
 
   -- no granted copy of the object is later than that of what is shown
-  none_later : (h : HeldCopy) (s : Standing definitions source) (c other : Granted) → IsLatestHeld kept h → held_rows.object_of h ≡ object_of c → held h.bucket h.key ≡ Some h.put
-      → mark ++ s.entry.bucket ≡ h.bucket → s.entry.key ≡ h.key → IsCopyOf s c → Has copies other → object_of other ≡ object_of c → is_later other c ≡ false
+  none_later : (h : HeldCopy) (s : Standing definitions source) (c other : Granted) → IsLatestHeld kept h → held_rows.object_of h ≡ granted_object c → held h.bucket h.key ≡ Some h.put
+      → mark ++ s.entry.bucket ≡ h.bucket → s.entry.key ≡ h.key → IsCopyOf s c → Has copies other → granted_object other ≡ granted_object c → is_later other c ≡ false
   none_later h s c other latest object there bucket key is has same =
       let g = granted_stands other has in
       let t = g.0 in
@@ -99,7 +99,7 @@ module _ (definitions : List Definition) (asker : Asker) (source : Source) (mark
   owned : (name : List ℕ) (h : HeldCopy) → h.bucket ≡ mark ++ name → kept (mark ++ name) h.key ≡ held (mark ++ name) h.key → kept h.bucket h.key ≡ Some h.put → held (mark ++ name) h.key ≡ Some h.put
   owned name h at same is = sym same ∙ ap (λ b. kept b h.key) (sym at) ∙ is
 
-  row_shown : (row : Shown) → IsLatestData kept (row_object row) row.content → (copy : Granted) × IsLatest copies copy × (row ≡ shown_of (object_of copy, copy))
+  row_shown : (row : Shown) → IsLatestData kept (row_object row) row.content → (copy : Granted) × IsLatest copies copy × (row ≡ shown_of (granted_object copy, copy))
   row_shown row (h, latest, object, is_content) =
       let bucket = holds.only h.bucket h.key (λ none. let wrong : None ≡ Some h.put = sym none ∙ latest.there in cc) in
       let name : List ℕ = bucket.0 in
@@ -107,7 +107,7 @@ module _ (definitions : List Definition) (asker : Asker) (source : Source) (mark
       let s = standing.only name h.key h.put there in
       let at : mark ++ s.0.entry.bucket ≡ h.bucket = ap (λ b. mark ++ b) s.1 ∙ sym bucket.1 in
       let g = stands_granted s.0 (subst (λ b. IsBucketOf definitions asker (rows_in source) b) (sym s.1) bucket.2) in
-      let of_object : object_of g.0 ≡ row_object row = (λ i. (sym g.2.kind i, sym g.2.id i)) ∙ (λ i. ((s.2 i).kind, (s.2 i).id)) ∙ object in
+      let of_object : granted_object g.0 ≡ row_object row = (λ i. (sym g.2.kind i, sym g.2.id i)) ∙ (λ i. ((s.2 i).kind, (s.2 i).id)) ∙ object in
       let own : row.content ≡ g.0.content = sym is_content ∙ put_content s.0.entry h.put s.3 ∙ g.2.content in
       let held_there : held h.bucket h.key ≡ Some h.put = subst (λ b. held b h.key ≡ Some h.put) (sym bucket.1) there in (
         g.0,
@@ -118,7 +118,7 @@ module _ (definitions : List Definition) (asker : Asker) (source : Source) (mark
         λ i. record { kind = (sym of_object i).0; id = (sym of_object i).1; content = own i },
       )
 
-  row_found : (row : Shown) → Contains rows row → row_at (row_object row) rows ≡ Some row.content
+  row_found : (row : Shown) → Contains rows row → shown_at (row_object row) rows ≡ Some row.content
   row_found row h = find_there (by_object rows) (row_object row) row.content (as_test (is_sorted key_cmp (by_object rows)) are.in_order) (has_map entry_of rows row (contains_has rows row h))
 
   pub are_latest : AreLatest copies rows
@@ -127,5 +127,5 @@ module _ (definitions : List Definition) (asker : Asker) (source : Source) (mark
     latest = λ row h. row_shown row (subst (λ r. IfSome r (IsLatestData kept (row_object row))) (row_found row h) (are.latest (row_object row)));
     all = λ c h.
         let g = granted_stands c (contains_has copies c h) in
-        row_there rows (object_of c) (subst (λ k. IsSome (row_at k rows)) (object_same g.0 c g.2) (are.all (copy_held g.0) (is_held g.0 g.1)));
+        row_there rows (granted_object c) (subst (λ k. IsSome (shown_at k rows)) (object_same g.0 c g.2) (are.all (copy_held g.0) (is_held g.0 g.1)));
   }

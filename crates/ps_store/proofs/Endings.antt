@@ -4,7 +4,7 @@ use Rattle.std.specs.Prelude.{if◌then◌else◌}
 use Rattle.std.proofs.lemmas.Bool.{false_from_ne_true}
 use Rattle.ps_store.specs.declared.events.Event.{Event}
 use Rattle.ps_store.specs.declared.events.Event.TheVariants.{Feed, Close, Write, Commit, Compact, WriteCheckpoint, Deploy, Build, Switch, Abandon}
-use Rattle.ps_store.specs.Generations.{is_of, Coming, queue_in, Ending, Switched, Abandoned, Ended, ending_of}
+use Rattle.ps_store.specs.Generations.{is_of_generation, Coming, queue_in, Ending, Switched, Abandoned, Ended, ending_of}
 use Rattle.ps_store.specs.Ledgers.{Ledger, unwritten, write_next, build_with, build_next, switch_to, drop_coming, ledger_after, CanCome, IsLegalFrom}
 use Rattle.ps_store.specs.Originals.{Timed}
 use Rattle.ps_store.proofs.Going.{IsWell, ComesWell, IsOver, done_of, well_event}
@@ -14,15 +14,15 @@ use Rattle.ps_data.proofs.Members.{Has, has_cases}
 
 -- ---- what is found
 
-pub not_ended : (bucket : List ℕ) (es : List Ended) → ((e : Ended) → Has es e → is_of e.lane.number bucket ≡ true → ⊥) → ending_of bucket es ≡ None
+pub not_ended : (bucket : List ℕ) (es : List Ended) → ((e : Ended) → Has es e → is_of_generation e.lane.number bucket ≡ true → ⊥) → ending_of bucket es ≡ None
 not_ended bucket [] h = refl
 not_ended bucket (e ∷ es) h =
-    ap (λ (b : Bool). if b then Some e.ending else ending_of bucket es) (false_from_ne_true (is_of e.lane.number bucket) (h e (inl refl)))
+    ap (λ (b : Bool). if b then Some e.ending else ending_of bucket es) (false_from_ne_true (is_of_generation e.lane.number bucket) (h e (inl refl)))
     ∙ not_ended bucket es (λ x i. h x (inr i))
 
 ending_append : (bucket : List ℕ) (xs ys : List Ended) → ending_of bucket xs ≡ None → ending_of bucket (xs ++ ys) ≡ ending_of bucket ys
 ending_append bucket [] ys h = refl
-ending_append bucket (x ∷ xs) ys h = by (is_of x.lane.number bucket) h (ending_append bucket xs ys)
+ending_append bucket (x ∷ xs) ys h = by (is_of_generation x.lane.number bucket) h (ending_append bucket xs ys)
   where
     by : (b : Bool) → (if b then Some x.ending else ending_of bucket xs) ≡ None → (ending_of bucket xs ≡ None → ending_of bucket (xs ++ ys) ≡ ending_of bucket ys)
         → (if b then Some x.ending else ending_of bucket (xs ++ ys)) ≡ ending_of bucket ys
@@ -142,13 +142,13 @@ goes_at (e ∷ history) l (suc n) (suc m) legal h low = goes_at history (ledger_
 -- ---- buckets of the generation in force
 
 -- they live
-pub lives : (l : Ledger) (bucket : List ℕ) → IsWell l → is_of l.force.number bucket ≡ true → ending_of bucket l.ended ≡ None
+pub lives : (l : Ledger) (bucket : List ℕ) → IsWell l → is_of_generation l.force.number bucket ≡ true → ending_of bucket l.ended ≡ None
 lives l bucket h is = not_ended bucket l.ended (λ e has mine.
     let o = h.over e has in
     o.not_force (one_generation e.lane.number l.force.number bucket o.from_one h.force.from_one (omega (arith, o.begun_is, h.begun_low)) (omega (arith, h.force.begun_is, h.begun_low)) mine is))
 
 -- and end at a later id
-pub ends_later : (old new : Ledger) (bucket : List ℕ) → IsWell old → IsWell new → GoesOn old new → is_of old.force.number bucket ≡ true → EndsPast old.last (ending_of bucket new.ended)
+pub ends_later : (old new : Ledger) (bucket : List ℕ) → IsWell old → IsWell new → GoesOn old new → is_of_generation old.force.number bucket ≡ true → EndsPast old.last (ending_of bucket new.ended)
 ends_later old new bucket well_old well_new goes is =
     subst (EndsPast old.last) (sym (ap (ending_of bucket) goes.is ∙ ending_append bucket old.ended goes.more (lives old bucket well_old is)))
     (find goes.more goes.later (λ e has. subst (λ (es : List Ended). Has es e → IsOver new.begun new.force.number new.building e) goes.is (well_new.over e) (behind old.ended goes.more e has)))
@@ -164,9 +164,9 @@ ends_later old new bucket well_old well_new goes is =
     find : (es : List Ended) → ((e : Ended) → Has es e → LaterEnd old.last old.force.number e.lane.number e.ending) → ((e : Ended) → Has es e → IsOver new.begun new.force.number new.building e)
         → EndsPast old.last (ending_of bucket es)
     find [] later over = tt
-    find (e ∷ es) later over = by (is_of e.lane.number bucket) refl (find es (λ x i. later x (inr i)) (λ x i. over x (inr i)))
+    find (e ∷ es) later over = by (is_of_generation e.lane.number bucket) refl (find es (λ x i. later x (inr i)) (λ x i. over x (inr i)))
       where
-        by : (b : Bool) → is_of e.lane.number bucket ≡ b → EndsPast old.last (ending_of bucket es) → EndsPast old.last (if b then Some e.ending else ending_of bucket es)
+        by : (b : Bool) → is_of_generation e.lane.number bucket ≡ b → EndsPast old.last (ending_of bucket es) → EndsPast old.last (if b then Some e.ending else ending_of bucket es)
         by true mine rest =
             let o = over e (inl refl) in
             at e e.ending (one_generation e.lane.number old.force.number bucket o.from_one well_old.force.from_one (omega (arith, o.begun_is, well_new.begun_low))

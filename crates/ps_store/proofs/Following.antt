@@ -5,7 +5,7 @@ use Rattle.ps_rows.specs.declared.changes.Transaction.{Transaction}
 use Rattle.ps_rows.specs.declared.shown.Shown.{Shown}
 use Rattle.ps_rows.specs.Source.{Key as Object, source_at}
 use Rattle.ps_client_log.specs.Kept.{Kept, bucket_at}
-use Rattle.ps_client_log.specs.Rows.{IsLatestContent, row_at}
+use Rattle.ps_client_log.specs.Rows.{IsLatestContent, shown_at}
 use Rattle.ps_queries.specs.declared.askers.Asker.{Asker}
 use Rattle.ps_definitions.specs.declared.definitions.Definition.{Definition}
 use Rattle.ps_queries.specs.Vectors.{SourceRow}
@@ -46,6 +46,6 @@ latest_data kept object (Some content) (copy, latest, same, is) = (copy, record 
 pub shows : (kept : Kept) (rows : List Shown) → AreLatestRows kept rows → ShowsLatest (holding_of kept) rows
 shows kept rows h = record {
   in_order = h.in_order;
-  latest = λ object. latest_data kept object (row_at object rows) (h.latest object);
+  latest = λ object. latest_data kept object (shown_at object rows) (h.latest object);
   all = h.all;
 }

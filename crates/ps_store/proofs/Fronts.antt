@@ -7,7 +7,7 @@ use Rattle.ps_rows.specs.declared.changes.Change.{Change}
 use Rattle.ps_rows.specs.declared.changes.Transaction.{Transaction}
 use Rattle.ps_rows.specs.Source.{source_at}
 use Rattle.ps_store.specs.Originals.{Timed, timed_from, timed}
-use Rattle.ps_store.specs.Steps.{Step, source_after, steps_upto, changes_of}
+use Rattle.ps_store.specs.Steps.{Step, source_after, steps_upto, step_changes}
 use Rattle.ps_store.specs.Laws.{Rises}
 use Rattle.ps_store.specs.StepLaws.{transactions_upto}
 use Rattle.ps_store.proofs.Moments.{after_all, transactions_leave, MomentsRise, timed_rise}
@@ -111,17 +111,17 @@ written_upto ts w p rises within =
 
 -- ---- steps
 
-pub changes_upto : (p : ℕ) (ss : List Step) → changes_of (steps_upto p ss) ≡ upto_timed p (changes_of ss)
+pub changes_upto : (p : ℕ) (ss : List Step) → step_changes (steps_upto p ss) ≡ upto_timed p (step_changes ss)
 changes_upto p [] = refl
 changes_upto p (s ∷ ss) = by (nat_le s.timed.position p) (changes_upto p ss)
   where
-    by : (b : Bool) → changes_of (steps_upto p ss) ≡ upto_timed p (changes_of ss)
-        → changes_of (cond b (s ∷ steps_upto p ss) (steps_upto p ss)) ≡ cond b (s.timed ∷ upto_timed p (changes_of ss)) (upto_timed p (changes_of ss))
+    by : (b : Bool) → step_changes (steps_upto p ss) ≡ upto_timed p (step_changes ss)
+        → step_changes (cond b (s ∷ steps_upto p ss) (steps_upto p ss)) ≡ cond b (s.timed ∷ upto_timed p (step_changes ss)) (upto_timed p (step_changes ss))
     by true rest = ap (λ ts. s.timed ∷ ts) rest
     by false rest = rest
 
 pub steps_lead : (transactions : List Transaction) (steps : List Step) (written p : ℕ) → Rises 0 transactions
-    → changes_of steps ≡ take written (timed transactions) → length (timed (transactions_upto p transactions)) ≤ written
+    → step_changes steps ≡ take written (timed transactions) → length (timed (transactions_upto p transactions)) ≤ written
     → source_after [] (steps_upto p steps) ≡ source_at transactions p
 steps_lead transactions steps written p rises are within =
     source_changes [] (steps_upto p steps)

@@ -8,12 +8,12 @@ use Rattle.ps_rows.specs.declared.changes.Transaction.{Transaction}
 use Rattle.ps_rows.specs.Source.{key_cmp, Source}
 use Rattle.ps_definitions.specs.declared.definitions.Definition.{Definition}
 use Rattle.ps_definitions.specs.RuleSets.{RuleSet, AreRules}
-use Rattle.ps_store.specs.Generations.{mark_of, is_of, Lane, fresh_lane, lane_next, step_lane, queue_of}
+use Rattle.ps_store.specs.Generations.{mark_of, is_of_generation, Lane, fresh_lane, lane_next, step_lane, queue_of}
 use Rattle.ps_store.specs.Laws.{HaveNumbers}
 use Rattle.ps_store.specs.Ledgers.{timed_of}
 use Rattle.ps_store.specs.Limits.{greatest}
 use Rattle.ps_store.specs.Originals.{Entered, Timed, timed_from, after, change_ops, in_bucket}
-use Rattle.ps_store.specs.Steps.{Step, marked, lane_ops, source_after, changes_of}
+use Rattle.ps_store.specs.Steps.{Step, marked, lane_ops, source_after, step_changes}
 use Rattle.ps_store.proofs.Apart.{in_order, moments_of_none}
 use Rattle.ps_store.proofs.Filling.{in_bucket_append}
 use Rattle.ps_store.proofs.Marks.{AreOf, none_in}
@@ -80,7 +80,7 @@ ids_push definitions source next [] s high top h past low = (omega (arith, h, pa
 ids_push definitions source next (x ∷ ss) s high top h past low =
     (h.0, ids_push definitions (after source x.timed) (x.first + length (change_ops definitions source x.first x.timed)) ss s high top h.1 past low)
 
-pub steps_from : (definitions : List Definition) (source : Source) (next position index : ℕ) (ss : List Step) (high : ℕ) → IdsFrom definitions source next ss high → MomentsRise position index (changes_of ss)
+pub steps_from : (definitions : List Definition) (source : Source) (next position index : ℕ) (ss : List Step) (high : ℕ) → IdsFrom definitions source next ss high → MomentsRise position index (step_changes ss)
     → StepsFrom definitions source next position index ss
 steps_from definitions source next position index [] high ids moments = tt
 steps_from definitions source next position index (s ∷ ss) high ids moments =
@@ -110,11 +110,11 @@ pub record IsLane (entered : List Entered) (last begun : ℕ) (done rest : List 
   pub are : AreRules lane.rules
   pub have : HaveNumbers lane.rules.definitions
   pub source : lane.source ≡ source_after [] lane.steps
-  pub moments : MomentsRise 0 0 (changes_of lane.steps ++ (queue ++ rest))
+  pub moments : MomentsRise 0 0 (step_changes lane.steps ++ (queue ++ rest))
   pub ids : IdsFrom lane.rules.definitions [] 0 lane.steps (last + 1)
-  pub own : (bucket : List ℕ) → is_of lane.number bucket ≡ true → in_bucket bucket entered ≡ in_bucket bucket (lane_ops (mark_of lane.number) lane.rules.definitions [] lane.steps)
+  pub own : (bucket : List ℕ) → is_of_generation lane.number bucket ≡ true → in_bucket bucket entered ≡ in_bucket bucket (lane_ops (mark_of lane.number) lane.rules.definitions [] lane.steps)
   pub whole : after_all lane.source queue ≡ after_all [] done
-  pub low : (p : ℕ) → AllUpTo p done → AllUpTo p (changes_of lane.steps) × AllUpTo p queue
+  pub low : (p : ℕ) → AllUpTo p done → AllUpTo p (step_changes lane.steps) × AllUpTo p queue
 
 -- it takes the next one
 pub takes : (entered : List Entered) (last begun : ℕ) (done rest : List Timed) (lane : Lane) (t : Timed) (queue : List Timed) → IsLane entered last begun done rest lane (t ∷ queue)
@@ -134,7 +134,7 @@ takes entered last begun done rest lane t queue h =
       have = h.have;
       source = ap (λ (source : Source). after source t) h.source ∙ sym (source_push [] lane.steps s);
       moments = subst (MomentsRise 0 0)
-          (sym (append_assoc (changes_of lane.steps) (t ∷ []) (queue ++ rest)) ∙ ap (λ (ts : List Timed). ts ++ (queue ++ rest)) (sym (map_push (λ (x : Step). x.timed) lane.steps s))) h.moments;
+          (sym (append_assoc (step_changes lane.steps) (t ∷ []) (queue ++ rest)) ∙ ap (λ (ts : List Timed). ts ++ (queue ++ rest)) (sym (map_push (λ (x : Step). x.timed) lane.steps s))) h.moments;
       ids = ids_push definitions [] 0 lane.steps s (last + 1) (last + length (marked mark ops) + 1) h.ids (omega arith) (omega (arith, count, many));
       own = λ bucket is.
           in_bucket_append bucket entered (marked mark ops)
@@ -142,7 +142,7 @@ takes entered last begun done rest lane t queue h =
           ∙ sym (in_bucket_append bucket (lane_ops mark definitions [] lane.steps) (marked mark ops))
           ∙ ap (in_bucket bucket) (ap (λ (es : List Entered). lane_ops mark definitions [] lane.steps ++ es) (sym same) ∙ sym (lane_push mark definitions [] lane.steps s));
       whole = h.whole;
-      low = λ p all. let l = h.low p all in (subst (AllUpTo p) (sym (map_push (λ (x : Step). x.timed) lane.steps s)) (all_push p (changes_of lane.steps) t l.0 l.1.0), l.1.1);
+      low = λ p all. let l = h.low p all in (subst (AllUpTo p) (sym (map_push (λ (x : Step). x.timed) lane.steps s)) (all_push p (step_changes lane.steps) t l.0 l.1.0), l.1.1);
     }
 
 -- a change is written that it has yet to take
@@ -154,7 +154,7 @@ queues entered last begun done rest lane t queue h = record {
   are = h.are;
   have = h.have;
   source = h.source;
-  moments = subst (MomentsRise 0 0) (ap (λ (ts : List Timed). changes_of lane.steps ++ ts) (sym (append_assoc queue (t ∷ []) rest))) h.moments;
+  moments = subst (MomentsRise 0 0) (ap (λ (ts : List Timed). step_changes lane.steps ++ ts) (sym (append_assoc queue (t ∷ []) rest))) h.moments;
   ids = h.ids;
   own = h.own;
   whole = after_push lane.source queue t ∙ ap (λ (source : Source). after source t) h.whole ∙ sym (after_push [] done t);
@@ -209,8 +209,8 @@ feeds entered last begun done rest lane queue head t all_done all_rest past h =
       have = h.have;
       source = h.source;
       moments = subst (MomentsRise 0 0)
-          (append_assoc (changes_of lane.steps) (queue ++ rest) (timed_of t) ∙ ap (λ (ts : List Timed). changes_of lane.steps ++ ts) (append_assoc queue rest (timed_of t)))
-          (moments_more 0 0 head (changes_of lane.steps ++ (queue ++ rest)) t h.moments (all_append head (changes_of lane.steps) (queue ++ rest) l.0 (all_append head queue rest l.1 all_rest)) (omega arith) past);
+          (append_assoc (step_changes lane.steps) (queue ++ rest) (timed_of t) ∙ ap (λ (ts : List Timed). step_changes lane.steps ++ ts) (append_assoc queue rest (timed_of t)))
+          (moments_more 0 0 head (step_changes lane.steps ++ (queue ++ rest)) t h.moments (all_append head (step_changes lane.steps) (queue ++ rest) l.0 (all_append head queue rest l.1 all_rest)) (omega arith) past);
       ids = h.ids;
       own = h.own;
       whole = h.whole;
@@ -219,7 +219,7 @@ feeds entered last begun done rest lane queue head t all_done all_rest past h =
 
 -- a new one begins, beside one that has nothing to take
 pub begins : (entered : List Entered) (last begun : ℕ) (done rest : List Timed) (lane : Lane) (rules : RuleSet) → AreRules rules → HaveNumbers rules.definitions
-    → ((bucket : List ℕ) → is_of (begun + 1) bucket ≡ true → in_bucket bucket entered ≡ []) → IsLane entered last begun done rest lane []
+    → ((bucket : List ℕ) → is_of_generation (begun + 1) bucket ≡ true → in_bucket bucket entered ≡ []) → IsLane entered last begun done rest lane []
     → IsLane entered last (begun + 1) done rest (fresh_lane (begun + 1) rules) (queue_of lane.source)
 begins entered last begun done rest lane rules are have none h =
     let sorted : T (is_sorted key_cmp lane.source) = subst (λ (s : Source). T (is_sorted key_cmp s)) (sym h.source) (in_order lane.steps) in

@@ -9,13 +9,13 @@ use Rattle.ps_definitions.specs.RuleSets.{RuleSet, AreRules}
 use Rattle.ps_store.specs.declared.events.Event.{Event}
 use Rattle.ps_store.specs.declared.events.Event.TheVariants.{Feed, Close, Write, Commit, Compact, WriteCheckpoint, Deploy, Build, Switch, Abandon}
 use Rattle.ps_store.specs.declared.reach.End.{End}
-use Rattle.ps_store.specs.Generations.{mark_of, is_of, Lane, lane_next, step_lane, Coming, with_change, queue_in, Ended, Switched, Abandoned}
+use Rattle.ps_store.specs.Generations.{mark_of, is_of_generation, Lane, lane_next, step_lane, Coming, with_change, queue_in, Ended, Switched, Abandoned}
 use Rattle.ps_store.specs.Laws.{Rises, HaveNumbers}
-use Rattle.ps_store.specs.Ledgers.{Ledger, fresh, head_of, timed_of, unwritten, next_ops, newest_of, wrote_next, write_next, taken_by, build_with, build_next, switch_to, drop_coming, end_of, ledger_after, ledger_of, reached_by, CanCome, IsLegalFrom, IsLegal}
+use Rattle.ps_store.specs.Ledgers.{Ledger, fresh_ledger, head_of, timed_of, unwritten, next_ops, newest_of, wrote_next, write_next, taken_by, build_with, build_next, switch_to, drop_coming, end_of, ledger_after, ledger_of, reached_by, CanCome, IsLegalFrom, IsLegal}
 use Rattle.ps_store.specs.Limits.{greatest}
 use Rattle.ps_store.specs.Originals.{Entered, Timed, timed_from, timed, change_ops, in_bucket}
 use Rattle.ps_store.specs.Reach.{Reached, settled_from, settled}
-use Rattle.ps_store.specs.Steps.{Step, source_after, changes_of}
+use Rattle.ps_store.specs.Steps.{Step, source_after, step_changes}
 use Rattle.ps_store.proofs.Cutting.{StepsBelow, below_higher, below_push, below_ids, newest_bounds, newest_marked, newest_low, cut_past}
 use Rattle.ps_store.proofs.Filling.{in_bucket_append}
 use Rattle.ps_store.proofs.Fronts.{upto_timed}
@@ -54,7 +54,7 @@ pub record IsWell (l : Ledger) : Type 0 where
   pub begun_low : l.begun ≤ greatest
   pub force : IsLane l.entered l.last l.begun (done_of l) (unwritten l) l.force []
   pub coming : ComesWell l.entered l.last l.begun (done_of l) (unwritten l) l.force.number l.building
-  pub unused : (g : ℕ) → l.begun < g → g ≤ greatest → (bucket : List ℕ) → is_of g bucket ≡ true → in_bucket bucket l.entered ≡ []
+  pub unused : (g : ℕ) → l.begun < g → g ≤ greatest → (bucket : List ℕ) → is_of_generation g bucket ≡ true → in_bucket bucket l.entered ≡ []
   pub over : (e : Ended) → Has l.ended e → IsOver l.begun l.force.number l.building e
   pub below : StepsBelow (max l.op l.wrote) l.force.rules.definitions [] l.force.steps
   pub reached : AtPlace l.fed l.written l.force l.reach.position (max l.op l.reach.op)
@@ -143,7 +143,7 @@ place_push fed written last force p c t past low h = record {
   all = omega (arith, h.all);
   cut = cut_past p c last force.rules.definitions force.steps t past low h.cut;
   source =
-      ap (after_all []) (ap (upto_timed p) (map_more (λ (x : Step). x.timed) force.steps (record { first = last + 1; timed = t })) ∙ upto_past p (changes_of force.steps) t past)
+      ap (after_all []) (ap (upto_timed p) (map_more (λ (x : Step). x.timed) force.steps (record { first = last + 1; timed = t })) ∙ upto_past p (step_changes force.steps) t past)
       ∙ h.source;
 }
 
@@ -543,7 +543,7 @@ well_event l Abandon can h = by l.building refl can
 
 -- ---- histories
 
-pub well_fresh : (rules : RuleSet) → AreRules rules → HaveNumbers rules.definitions → IsWell (fresh rules)
+pub well_fresh : (rules : RuleSet) → AreRules rules → HaveNumbers rules.definitions → IsWell (fresh_ledger rules)
 well_fresh rules are have = record {
   rises = tt;
   within = omega arith;
@@ -567,4 +567,4 @@ well_from [] l legal h = h
 well_from (e ∷ history) l legal h = well_from history (ledger_after l e) legal.1 (well_event l e legal.0 h)
 
 pub well_history : (rules : RuleSet) (history : List Event) → AreRules rules → HaveNumbers rules.definitions → IsLegal rules history → IsWell (ledger_of rules history)
-well_history rules history are have legal = well_from history (fresh rules) legal (well_fresh rules are have)
+well_history rules history are have legal = well_from history (fresh_ledger rules) legal (well_fresh rules are have)

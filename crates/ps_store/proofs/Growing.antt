@@ -16,15 +16,15 @@ use Rattle.ps_bucket_log.specs.Laws.{GrowsLater, StandsLater, StandsForItself}
 use Rattle.ps_compact.specs.Compaction.{compacted}
 use Rattle.ps_compact.specs.Laws.{CompactedStands}
 use Rattle.ps_rows.specs.declared.changes.Transaction.{Transaction}
-use Rattle.ps_write_cp.specs.Kept.{Rises, AreUpTo}
-use Rattle.ps_write_cp.specs.Numbers.{Made, is_of, heads_of}
+use Rattle.ps_write_cp.specs.Kept.{HeadsNeverFall, AreUpTo}
+use Rattle.ps_write_cp.specs.Numbers.{Made, is_of_client, heads_of}
 use Rattle.ps_definitions.specs.RuleSets.{RuleSet}
 use Rattle.ps_bucket_eval.specs.declared.placed.Placed.{Placed}
 use Rattle.ps_store.specs.declared.events.Event.{Event}
 use Rattle.ps_store.specs.declared.events.Event.TheVariants.{Feed, Close, Write, Commit, Compact, WriteCheckpoint, Deploy, Build, Switch, Abandon}
 use Rattle.ps_store.specs.declared.reach.End.{End}
 use Rattle.ps_store.specs.Generations.{mark_of, Lane, lane_next, Coming, queue_in, Ending, Switched, Abandoned, Ended}
-use Rattle.ps_store.specs.Ledgers.{Ledger, fresh, head_of, unwritten, next_ops, newest_of, wrote_next, write_next, taken_by, build_with, build_next, switch_to, drop_coming, end_of, made_by, ledger_after, heads_in, last_number, CanCome, IsLegalFrom}
+use Rattle.ps_store.specs.Ledgers.{Ledger, fresh_ledger, head_of, unwritten, next_ops, newest_of, wrote_next, write_next, taken_by, build_with, build_next, switch_to, drop_coming, end_of, made_by, ledger_after, heads_in, last_number, CanCome, IsLegalFrom}
 use Rattle.ps_store.specs.Laws.{Rises as RisesFrom}
 use Rattle.ps_store.specs.Limits.{greatest}
 use Rattle.ps_store.specs.Originals.{Entered, Timed, key_of, standing_entries, entries_at, leaving, removed, put, numbered, in_bucket}
@@ -150,7 +150,7 @@ settled_within (e ∷ es) last position op over h = by (nat_le e.changes over) (
 
 -- they do not fall, and none is past the head
 pub record AreHeads (head : ℕ) (heads : List Position) : Type 0 where
-  pub rise : Rises heads
+  pub rise : HeadsNeverFall heads
   pub low : AreUpTo head heads
 
 heads_more : (head : Position) (heads : List Position) → AreHeads head.0 heads → AreHeads head.0 (heads ++ head ∷ [])
@@ -165,16 +165,16 @@ heads_up low high heads up h = record { rise = h.rise; low = λ i d within. let 
 no_heads : (head : ℕ) → AreHeads head []
 no_heads head = record { rise = λ i j d order within. absurd (omega (arith, within)); low = λ i d within. absurd (omega (arith, within)) }
 
-pub heads_push : (user client : List ℕ) (made : Made) (numbers : List Made) → heads_of user client (numbers ++ made ∷ []) ≡ heads_of user client numbers ++ (if is_of user client made then made.head ∷ [] else [])
-heads_push user client made [] = elim (is_of user client made) as (λ b. map (λ (m : Made). m.head) (cond b (made ∷ []) []) ≡ (if b then made.head ∷ [] else [])) [ true ↦ refl | false ↦ refl ]
-heads_push user client made (m ∷ numbers) = elim (is_of user client m) as (λ b. map (λ (n : Made). n.head) (cond b (m ∷ filter (is_of user client) (numbers ++ made ∷ [])) (filter (is_of user client) (numbers ++ made ∷ [])))
-    ≡ map (λ (n : Made). n.head) (cond b (m ∷ filter (is_of user client) numbers) (filter (is_of user client) numbers)) ++ (if is_of user client made then made.head ∷ [] else [])) [
+pub heads_push : (user client : List ℕ) (made : Made) (numbers : List Made) → heads_of user client (numbers ++ made ∷ []) ≡ heads_of user client numbers ++ (if is_of_client user client made then made.head ∷ [] else [])
+heads_push user client made [] = elim (is_of_client user client made) as (λ b. map (λ (m : Made). m.head) (cond b (made ∷ []) []) ≡ (if b then made.head ∷ [] else [])) [ true ↦ refl | false ↦ refl ]
+heads_push user client made (m ∷ numbers) = elim (is_of_client user client m) as (λ b. map (λ (n : Made). n.head) (cond b (m ∷ filter (is_of_client user client) (numbers ++ made ∷ [])) (filter (is_of_client user client) (numbers ++ made ∷ [])))
+    ≡ map (λ (n : Made). n.head) (cond b (m ∷ filter (is_of_client user client) numbers) (filter (is_of_client user client) numbers)) ++ (if is_of_client user client made then made.head ∷ [] else [])) [
       | true ↦ ap (λ hs. m.head ∷ hs) (heads_push user client made numbers)
       | false ↦ heads_push user client made numbers
     ]
 
 -- what is of a client is its
-is_made : (user client owner device : List ℕ) (head : Position) → is_of user client (record { user = owner; client = device; head = head }) ≡ true → (user ≡ owner) × (client ≡ device)
+is_made : (user client owner device : List ℕ) (head : Position) → is_of_client user client (record { user = owner; client = device; head = head }) ≡ true → (user ≡ owner) × (client ≡ device)
 is_made user client owner device head h =
     let both = and_parts (bytes_eq user owner) (bytes_eq client device) h in
     ((bytes_eq-Decides user owner).0 both.0, (bytes_eq-Decides client device).0 both.1)
@@ -223,7 +223,7 @@ within_higher p q (Some (Switched id)) le h = omega (arith, le, h)
 within_higher p q (Some Abandoned) le h = tt
 
 module _ (grows_later : GrowsLater) (stands_later : StandsLater) (for_itself : StandsForItself) (compacted_stands : CompactedStands) where
-  pub sound_fresh : (rules : RuleSet) → IsSound (fresh rules)
+  pub sound_fresh : (rules : RuleSet) → IsSound (fresh_ledger rules)
   sound_fresh rules = record {
     entries = λ bucket. record { rising = tt; entries = refl };
     newest_low = λ bucket. omega arith;
@@ -425,15 +425,15 @@ module _ (grows_later : GrowsLater) (stands_later : StandsLater) (for_itself : S
         level_low = h.level_low;
         ended = h.ended;
         heads = λ owner device. subst (AreHeads (head_of l.fed)) (sym (heads_push owner device made l.numbers))
-            (elim (is_of owner device made) as (λ b. AreHeads (head_of l.fed) (heads_in l owner device ++ (if b then head ∷ [] else []))) [
+            (elim (is_of_client owner device made) as (λ b. AreHeads (head_of l.fed) (heads_in l owner device ++ (if b then head ∷ [] else []))) [
               | true ↦ heads_more head (heads_in l owner device) (h.heads owner device)
               | false ↦ subst (AreHeads (head_of l.fed)) (sym (append-nil (heads_in l owner device))) (h.heads owner device)
             ]);
         numbers_low = λ owner device. subst (λ (heads : List Position). length heads ≤ greatest) (sym (heads_push owner device made l.numbers))
-            (counted owner device (is_of owner device made) refl);
+            (counted owner device (is_of_client owner device made) refl);
       }
     where
-      counted : (owner device : List ℕ) (b : Bool) → is_of owner device (made_by user client l.fed) ≡ b
+      counted : (owner device : List ℕ) (b : Bool) → is_of_client owner device (made_by user client l.fed) ≡ b
           → length (heads_in l owner device ++ (if b then record { 0 = head_of l.fed } ∷ [] else [])) ≤ greatest
       counted owner device true is =
           let own = is_made owner device user client (record { 0 = head_of l.fed }) is in
@@ -556,7 +556,7 @@ module _ (grows_later : GrowsLater) (stands_later : StandsLater) (for_itself : S
     fed = same_fed l;
     heads = λ owner device.
         let made : Made = made_by user client l.fed in
-        ((if is_of owner device made then made.head ∷ [] else []), heads_push owner device made l.numbers);
+        ((if is_of_client owner device made then made.head ∷ [] else []), heads_push owner device made l.numbers);
   }
   later_after l (Deploy rules) can h = record { op = omega arith; last = omega arith; grows = λ bucket. grown_same l.last (in_bucket bucket l.entered); fed = same_fed l; heads = same_heads l }
   later_after l (Build n) can h = later_builds (take n (queue_in l.building)) l h

@@ -5,9 +5,9 @@ use Rattle.std.proofs.lemmas.Slice.Eq.{bytes_eq-Decides}
 use Rattle.ps_definitions.specs.RuleSets.{RuleSet, AreRules}
 use Rattle.ps_store.specs.declared.events.Event.{Event}
 use Rattle.ps_store.specs.declared.events.Event.TheVariants.{Feed, Close, Write, Commit, Compact, WriteCheckpoint, Deploy, Build, Switch, Abandon}
-use Rattle.ps_store.specs.Generations.{is_of, lane_next, step_lane, Coming, with_change, queue_in, Ended, ending_of}
+use Rattle.ps_store.specs.Generations.{is_of_generation, lane_next, step_lane, Coming, with_change, queue_in, Ended, ending_of}
 use Rattle.ps_store.specs.Laws.{HaveNumbers}
-use Rattle.ps_store.specs.Ledgers.{Ledger, fresh, unwritten, next_ops, write_next, build_with, build_next, switch_to, drop_coming, ledger_after, ledger_of, CanCome, IsLegalFrom, IsLegal}
+use Rattle.ps_store.specs.Ledgers.{Ledger, fresh_ledger, unwritten, next_ops, write_next, build_with, build_next, switch_to, drop_coming, ledger_after, ledger_of, CanCome, IsLegalFrom, IsLegal}
 use Rattle.ps_store.specs.Originals.{Entered, Timed, in_bucket}
 use Rattle.ps_store.proofs.Filling.{in_bucket_cons}
 use Rattle.ps_store.proofs.Going.{IsWell, ComesWell, well_event, well_fresh, done_of}
@@ -15,14 +15,14 @@ use Rattle.ps_store.proofs.Marks.{AreOf, next_of}
 
 abbrev pub InComing : Option Coming → List ℕ → Type 0
 InComing None bucket = ⊥
-InComing (Some coming) bucket = is_of coming.lane.number bucket ≡ true
+InComing (Some coming) bucket = is_of_generation coming.lane.number bucket ≡ true
 
 abbrev pub InEnded : List Ended → List ℕ → Type 0
 InEnded [] bucket = ⊥
-InEnded (e ∷ es) bucket = (is_of e.lane.number bucket ≡ true) ⊎ InEnded es bucket
+InEnded (e ∷ es) bucket = (is_of_generation e.lane.number bucket ≡ true) ⊎ InEnded es bucket
 
 abbrev pub HasHome : ℕ → Option Coming → List Ended → List ℕ → Type 0
-HasHome number coming ended bucket = (is_of number bucket ≡ true) ⊎ (InComing coming bucket ⊎ InEnded ended bucket)
+HasHome number coming ended bucket = (is_of_generation number bucket ≡ true) ⊎ (InComing coming bucket ⊎ InEnded ended bucket)
 
 abbrev pub AreHome : ℕ → Option Coming → List Ended → List Entered → Type 0
 AreHome number coming ended [] = Unit {0}
@@ -89,7 +89,7 @@ ended_more : (es : List Ended) (e : Ended) (bucket : List ℕ) → InEnded es bu
 ended_more [] e bucket h = absurd h
 ended_more (x ∷ es) e bucket h = elim h [ inl own ↦ inl own | inr rest ↦ inr (ended_more es e bucket rest) ]
 
-ended_last : (es : List Ended) (e : Ended) (bucket : List ℕ) → is_of e.lane.number bucket ≡ true → InEnded (es ++ e ∷ []) bucket
+ended_last : (es : List Ended) (e : Ended) (bucket : List ℕ) → is_of_generation e.lane.number bucket ≡ true → InEnded (es ++ e ∷ []) bucket
 ended_last [] e bucket h = inl h
 ended_last (x ∷ es) e bucket h = inr (ended_last es e bucket h)
 
@@ -141,20 +141,20 @@ home_from [] l legal well h = h
 home_from (e ∷ history) l legal well h = home_from history (ledger_after l e) legal.1 (well_event l e legal.0 well) (home_event l e legal.0 well h)
 
 pub homed : (rules : RuleSet) (history : List Event) → AreRules rules → HaveNumbers rules.definitions → IsLegal rules history → Homed (ledger_of rules history)
-homed rules history are have legal = home_from history (fresh rules) legal (well_fresh rules are have) tt
+homed rules history are have legal = home_from history (fresh_ledger rules) legal (well_fresh rules are have) tt
 
 -- ---- so a bucket of no generation that lives, and of none that ended, has no operation
 
 ended_found : (es : List Ended) (bucket : List ℕ) → InEnded es bucket → ending_of bucket es ≡ None → ⊥
 ended_found [] bucket h none = h
-ended_found (e ∷ es) bucket h none = by (is_of e.lane.number bucket) refl none (λ rest k. ended_found es bucket rest k)
+ended_found (e ∷ es) bucket h none = by (is_of_generation e.lane.number bucket) refl none (λ rest k. ended_found es bucket rest k)
   where
-    by : (b : Bool) → is_of e.lane.number bucket ≡ b → (if b then Some e.ending else ending_of bucket es) ≡ None → (InEnded es bucket → ending_of bucket es ≡ None → ⊥) → ⊥
+    by : (b : Bool) → is_of_generation e.lane.number bucket ≡ b → (if b then Some e.ending else ending_of bucket es) ≡ None → (InEnded es bucket → ending_of bucket es ≡ None → ⊥) → ⊥
     by true own k more = let wrong : Some e.ending ≡ None = k in absurd (cc)
     by false other k more = elim h [ inl own ↦ (let wrong : true ≡ false = sym own ∙ other in absurd (cc)) | inr rest ↦ more rest k ]
 
 pub none_there : (number : ℕ) (coming : Option Coming) (ended : List Ended) (bucket : List ℕ) (xs : List Entered) → AreHome number coming ended xs
-    → is_of number bucket ≡ false → (InComing coming bucket → ⊥) → ending_of bucket ended ≡ None → in_bucket bucket xs ≡ []
+    → is_of_generation number bucket ≡ false → (InComing coming bucket → ⊥) → ending_of bucket ended ≡ None → in_bucket bucket xs ≡ []
 none_there number coming ended bucket [] h force coming_not none = refl
 none_there number coming ended bucket (x ∷ xs) h force coming_not none = in_bucket_cons bucket x xs ∙ by (bytes_eq bucket x.bucket) refl (none_there number coming ended bucket xs h.1 force coming_not none)
   where

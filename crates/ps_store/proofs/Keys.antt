@@ -7,7 +7,7 @@ use Rattle.std.proofs.lemmas.Slice.Eq.{bytes_eq-Decides}
 use Rattle.ps_bucket_log.specs.declared.ops.Key.{Key as EntryKey}
 use Rattle.ps_definitions.specs.declared.queries.Planned.{Planned}
 use Rattle.ps_definitions.specs.declared.definitions.Definition.{Definition}
-use Rattle.ps_definitions.specs.RuleSets.{rises_past, numbers_of}
+use Rattle.ps_definitions.specs.RuleSets.{rises_past, all_query_numbers}
 use Rattle.ps_bucket_eval.specs.declared.placed.Placed.{Placed}
 use Rattle.ps_queries.specs.Objects.{object_id}
 use Rattle.ps_bucket_eval.specs.Shown.{alone}
@@ -94,7 +94,7 @@ pub record IsSameRow (a b : SourceRow) (x y : Placed) : Type 0 where
   pub table : a.table ≡ b.table
   pub id : a.id ≡ b.id
 
-pub same_row : (definitions : List Definition) → rises_past 0 (numbers_of definitions) ≡ true → HaveNumbers definitions
+pub same_row : (definitions : List Definition) → rises_past 0 (all_query_numbers definitions) ≡ true → HaveNumbers definitions
     → (a b : SourceRow) (x y : Placed) → Has (entries_of definitions a) x → Has (entries_of definitions b) y → x.key ≡ y.key → IsSameRow a b x y
 same_row definitions rise have a b x y i j e =
     let f = is_of definitions a x i in

@@ -22,7 +22,7 @@ use Rattle.ps_store.specs.CourseLaws.{IsLawful, StayHonest, BatchesKeepHonest, I
 use Rattle.ps_store.specs.Generations.{Ending, Switched, Abandoned}
 use Rattle.ps_store.specs.Latest.{ShowsLatest}
 use Rattle.ps_store.specs.Limits.{greatest}
-use Rattle.ps_store.specs.Readings.{taken_names, AreTold, bucket_upto, batch_in}
+use Rattle.ps_store.specs.Readings.{taken_names, AreToldBehindMark, bucket_upto, batch_in}
 use Rattle.ps_store.specs.Standing.{Holding}
 use Rattle.ps_store.proofs.Sums.{every_front, every_filtered, AreSummed}
 
@@ -95,7 +95,7 @@ pub record KeepsTakes (course : Course) (log : ℕ → List ℕ → List Op) : T
   pub position_low : (n : ℕ) → (course.take n).position.0 ≤ (course.take n).head.0
   pub head_low : (n : ℕ) → (course.take n).head.0 ≤ greatest
   pub taken : (n : ℕ) → AllByRecursion (λ (b : TakenBucket). b ≡ bucket_upto (course.op n) b.name (log n b.name)) (course.take n).buckets
-  pub rows : (n : ℕ) (held : Holding) (rows : List Shown) → AreTold (taken_names (course.take n)) → HoldsTaken course n held → ShowsLatest held rows → rows ≡ course.due n
+  pub rows : (n : ℕ) (held : Holding) (rows : List Shown) → AreToldBehindMark (taken_names (course.take n)) → HoldsTaken course n held → ShowsLatest held rows → rows ≡ course.due n
   pub covers : Covers course
 
 -- ---- ids

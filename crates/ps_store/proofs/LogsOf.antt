@@ -7,7 +7,7 @@ use Rattle.ps_store.specs.declared.building.Building.{Building}
 use Rattle.ps_store.specs.declared.events.Event.{Event}
 use Rattle.ps_store.specs.declared.fixed.Fixed.{Fixed}
 use Rattle.ps_store.specs.declared.stores.Store.{Store}
-use Rattle.ps_store.specs.Generations.{mark_of, begins_with, begins_with_digit, is_of, Coming, Ending, ending_of}
+use Rattle.ps_store.specs.Generations.{mark_of, begins_with, begins_with_digit, is_of_generation, Coming, Ending, ending_of}
 use Rattle.ps_store.specs.Ledgers.{Ledger, unwritten, ledger_of}
 use Rattle.ps_store.specs.StoreGenerations.{log_of}
 use Rattle.ps_store.specs.StoreLogs.{log_at, has_ops}
@@ -25,10 +25,10 @@ no_ops (op ∷ ops) h = absurd (let wrong : true ≡ false = h in cc)
 is_first : (number : ℕ) → 1 < number → nat_le number 1 ≡ false
 is_first number h = grind (arith, nat_tests)
 
-is_marked : (bucket : List ℕ) (number : ℕ) → 1 < number → begins_with (mark_of number) bucket ≡ true → is_of number bucket ≡ true
+is_marked : (bucket : List ℕ) (number : ℕ) → 1 < number → begins_with (mark_of number) bucket ≡ true → is_of_generation number bucket ≡ true
 is_marked bucket number more found = ap (λ (b : Bool). if b then not (begins_with_digit bucket) else begins_with (mark_of number) bucket) (is_first number more) ∙ found
 
-is_unmarked : (bucket : List ℕ) (number : ℕ) → 1 < number → begins_with (mark_of number) bucket ≡ false → is_of number bucket ≡ false
+is_unmarked : (bucket : List ℕ) (number : ℕ) → 1 < number → begins_with (mark_of number) bucket ≡ false → is_of_generation number bucket ≡ false
 is_unmarked bucket number more found = ap (λ (b : Bool). if b then not (begins_with_digit bucket) else begins_with (mark_of number) bucket) (is_first number more) ∙ found
 
 module _ (fixed : Fixed) (store : Store) (history : List Event) (h : StoreStandsFor fixed store history) (bucket : List ℕ) where
@@ -44,30 +44,30 @@ module _ (fixed : Fixed) (store : Store) (history : List Event) (h : StoreStands
 
   -- in the generation in force, where the bucket is not of the one that is being built
   pub force_log : (InComing l.building bucket → ⊥) → log_at store.logs bucket ≡ log_of l bucket
-  force_log other = h.stands.logs bucket ∙ by (is_of l.force.number bucket) refl
+  force_log other = h.stands.logs bucket ∙ by (is_of_generation l.force.number bucket) refl
     where
-      empty : is_of l.force.number bucket ≡ false → ending_of bucket l.ended ≡ None → l.log bucket ≡ []
+      empty : is_of_generation l.force.number bucket ≡ false → ending_of bucket l.ended ≡ None → l.log bucket ≡ []
       empty outside none =
           no_ops (l.log bucket) (h.stands.kept.filled bucket
           ∙ ap has_ops (none_there l.force.number l.building l.ended bucket l.entered (homed fixed.rules history h.rules h.query_numbers h.legal) outside other none))
 
-      ended : (o : Option Ending) → ending_of bucket l.ended ≡ o → is_of l.force.number bucket ≡ false → [] ≡ (if is_some o then [] else l.log bucket)
+      ended : (o : Option Ending) → ending_of bucket l.ended ≡ o → is_of_generation l.force.number bucket ≡ false → [] ≡ (if is_some o then [] else l.log bucket)
       ended None is outside = sym (empty outside is)
       ended (Some ending) is outside = refl
 
-      by : (b : Bool) → is_of l.force.number bucket ≡ b → (if b then l.log bucket else []) ≡ log_of l bucket
+      by : (b : Bool) → is_of_generation l.force.number bucket ≡ b → (if b then l.log bucket else []) ≡ log_of l bucket
       by true mine = live (lives l bucket well mine)
       by false outside = ended (ending_of bucket l.ended) refl outside
 
   -- in the one that is being built
-  pub built_log : (built : Building) → store.generations.building ≡ Some built → (coming : Coming) → l.building ≡ Some coming → is_of coming.lane.number bucket ≡ true → log_at built.logs bucket ≡ log_of l bucket
+  pub built_log : (built : Building) → store.generations.building ≡ Some built → (coming : Coming) → l.building ≡ Some coming → is_of_generation coming.lane.number bucket ≡ true → log_at built.logs bucket ≡ log_of l bucket
   built_log built is coming coming_is mine =
       let b = is_built fixed store history h built is in
       let same : b.lane ≡ coming = of_some (sym b.is ∙ coming_is) in
       let comes : ComesWell l.entered l.last l.begun (done_of l) (unwritten l) l.force.number (Some coming) =
       subst (λ (o : Option Coming). ComesWell l.entered l.last l.begun (done_of l) (unwritten l) l.force.number o) coming_is well.coming in
       b.stands.logs bucket
-      ∙ ap (λ (c : Coming). if is_of c.lane.number bucket then l.log bucket else []) same
+      ∙ ap (λ (c : Coming). if is_of_generation c.lane.number bucket then l.log bucket else []) same
       ∙ ap (λ (t : Bool). if t then l.log bucket else []) mine
       ∙ live (not_built l coming bucket well coming_is (omega (arith, comes.1)) comes.0.from_one mine)
     where
@@ -87,7 +87,7 @@ module _ (fixed : Fixed) (store : Store) (history : List Event) (h : StoreStands
       let b = is_built fixed store history h built is in
       let comes : ComesWell l.entered l.last l.begun (done_of l) (unwritten l) l.force.number (Some b.lane) =
       subst (λ (o : Option Coming). ComesWell l.entered l.last l.begun (done_of l) (unwritten l) l.force.number o) b.is well.coming in
-      let none : is_of b.lane.lane.number bucket ≡ false =
+      let none : is_of_generation b.lane.lane.number bucket ≡ false =
       is_unmarked bucket b.lane.lane.number (omega (arith, comes.2, well.force.from_one)) (ap (λ (mark : List ℕ). begins_with mark bucket) (sym b.stands.mark) ∙ other) in
       force_log (subst (λ (o : Option Coming). InComing o bucket → ⊥) (sym b.is) (λ mine. let wrong : true ≡ false = sym mine ∙ none in cc))
 

@@ -3,7 +3,7 @@ use Rattle.std.proofs.Common.{List, [], ◌∷◌, fold}
 use Rattle.ps_bucket_log.specs.Laws.{GrowsLater, StandsLater, StandsForItself}
 use Rattle.ps_compact.specs.Laws.{CompactedStands}
 use Rattle.ps_store.specs.declared.events.Event.{Event}
-use Rattle.ps_store.specs.Ledgers.{Ledger, fresh, ledger_after, IsLegalFrom}
+use Rattle.ps_store.specs.Ledgers.{Ledger, fresh_ledger, ledger_after, IsLegalFrom}
 use Rattle.ps_store.specs.LogLaws.{LogsStand}
 use Rattle.ps_store.proofs.Growing.{IsSound, sound_fresh, sound_after}
 
@@ -14,5 +14,5 @@ module _ (grows : GrowsLater) (later : StandsLater) (itself : StandsForItself) (
 
   pub logs_stand : LogsStand
   logs_stand rules history legal bucket =
-      let sound = sound_whole history (fresh rules) legal (sound_fresh grows later itself compacted rules) in
+      let sound = sound_whole history (fresh_ledger rules) legal (sound_fresh grows later itself compacted rules) in
       record { entries = sound.entries bucket; within = sound.newest_low bucket; stands = sound.stands bucket; level = sound.level_low bucket }

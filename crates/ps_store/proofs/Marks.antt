@@ -11,7 +11,7 @@ use Rattle.ps_definitions.specs.declared.definitions.Definition.{Definition}
 use Rattle.ps_definitions.specs.declared.queries.Planned.{Planned}
 use Rattle.ps_definitions.specs.Names.{begins_word, is_definition_name}
 use Rattle.ps_definitions.specs.Buckets.{bucket_name_of}
-use Rattle.ps_definitions.specs.RuleSets.{RuleSet, AreRules, IsSound}
+use Rattle.ps_definitions.specs.RuleSets.{RuleSet, AreRules, IsSoundDefinition}
 use Rattle.ps_queries.specs.Objects.{object_id}
 use Rattle.ps_bucket_eval.specs.declared.placed.Placed.{Placed}
 use Rattle.ps_bucket_eval.specs.Shown.{alone}
@@ -20,9 +20,9 @@ use Rattle.ps_bucket_eval.specs.Entries.{placed_in, placed_all, buckets_of, quer
 use Rattle.ps_rows.specs.Source.{Key, Source}
 use Rattle.ps_data.specs.declared.columns.Column.{Column}
 use Rattle.ps_data.specs.declared.values.Value.{Value}
-use Rattle.ps_store.specs.Generations.{mark_of, begins_with_digit, begins_with, is_of, Lane, lane_next}
+use Rattle.ps_store.specs.Generations.{mark_of, begins_with_digit, begins_with, is_of_generation, Lane, lane_next}
 use Rattle.ps_store.specs.Limits.{greatest}
-use Rattle.ps_store.specs.Originals.{Entered, Timed, removed, put, leaving, stays, numbered, row_of, key_of, entries_at, standing_entries, change_ops, in_bucket}
+use Rattle.ps_store.specs.Originals.{Entered, Timed, removed, put, leaving, stays, numbered, keyed_row, key_of, entries_at, standing_entries, change_ops, in_bucket}
 use Rattle.ps_store.specs.Steps.{marked}
 use Rattle.ps_store.proofs.Filling.{in_bucket_cons}
 use Rattle.ps_data.proofs.Members.{Has, from_map, from_flat, from_filter}
@@ -31,7 +31,7 @@ use Rattle.ps_queries.specs.declared.askers.Asker.{Asker}
 use Rattle.ps_queries.specs.Vectors.{SourceRow}
 use Rattle.ps_definitions.specs.Vectors.{parameter_vectors}
 use Rattle.ps_params.specs.Names.{definition_names, bucket_names, IsTold, AreTold as ArePlainTold}
-use Rattle.ps_store.specs.Readings.{with_mark, IsToldBehindMark, AreTold}
+use Rattle.ps_store.specs.Readings.{with_mark, IsToldBehindMark, AreToldBehindMark}
 
 -- ---- texts
 
@@ -99,10 +99,10 @@ word_first [] h = refl
 word_first (x ∷ xs) h = letter_first x h
 
 -- a name behind a mark is of its generation
-pub is_of_marked : (number : ℕ) (name : List ℕ) → begins_word name ≡ true → is_of number (mark_of number ++ name) ≡ true
+pub is_of_marked : (number : ℕ) (name : List ℕ) → begins_word name ≡ true → is_of_generation number (mark_of number ++ name) ≡ true
 is_of_marked number name h = by (nat_le number 1) refl
   where
-    by : (b : Bool) → nat_le number 1 ≡ b → is_of number (mark_of number ++ name) ≡ true
+    by : (b : Bool) → nat_le number 1 ≡ b → is_of_generation number (mark_of number ++ name) ≡ true
     by true e =
         ap (λ (c : Bool). if c then not (begins_with_digit (mark_of number ++ name)) else begins_with (mark_of number) (mark_of number ++ name)) e
         ∙ ap (λ (m : List ℕ). not (begins_with_digit (m ++ name))) (mark_none number e) ∙ ap not (word_first name h)
@@ -111,7 +111,7 @@ is_of_marked number name h = by (nat_le number 1) refl
         ∙ begins_itself (mark_of number) name
 
 -- what a bucket of a generation is
-pub parts_of : (number : ℕ) (bucket : List ℕ) → (b : Bool) → nat_le number 1 ≡ b → is_of number bucket ≡ true
+pub parts_of : (number : ℕ) (bucket : List ℕ) → (b : Bool) → nat_le number 1 ≡ b → is_of_generation number bucket ≡ true
     → (if b then not (begins_with_digit bucket) else begins_with (decimal number ++ 35 ∷ []) bucket) ≡ true
 parts_of number bucket true e h = sym (ap (λ (c : Bool). if c then not (begins_with_digit bucket) else begins_with (mark_of number) bucket) e) ∙ h
 parts_of number bucket false e h =
@@ -134,7 +134,7 @@ not_first number bucket low plain marked =
     cc
 
 -- no bucket is of two generations
-pub one_generation : (g h : ℕ) (bucket : List ℕ) → 1 ≤ g → 1 ≤ h → g ≤ greatest → h ≤ greatest → is_of g bucket ≡ true → is_of h bucket ≡ true → g ≡ h
+pub one_generation : (g h : ℕ) (bucket : List ℕ) → 1 ≤ g → 1 ≤ h → g ≤ greatest → h ≤ greatest → is_of_generation g bucket ≡ true → is_of_generation h bucket ≡ true → g ≡ h
 one_generation g h bucket some_g some_h low_g low_h in_g in_h = by (nat_le g 1) refl (nat_le h 1) refl
   where
     by : (a : Bool) → nat_le g 1 ≡ a → (b : Bool) → nat_le h 1 ≡ b → g ≡ h
@@ -151,14 +151,14 @@ one_generation g h bucket some_g some_h low_g low_h in_g in_h = by (nat_le g 1) 
 
 abbrev pub AreOf : ℕ → List Entered → Type 0
 AreOf number [] = Unit {0}
-AreOf number (e ∷ es) = (is_of number e.bucket ≡ true) × AreOf number es
+AreOf number (e ∷ es) = (is_of_generation number e.bucket ≡ true) × AreOf number es
 
 pub of_append : (number : ℕ) (xs ys : List Entered) → AreOf number xs → AreOf number ys → AreOf number (xs ++ ys)
 of_append number [] ys h k = k
 of_append number (x ∷ xs) ys h k = (h.0, of_append number xs ys h.1 k)
 
 -- none of them is in a bucket of another
-pub none_in : (g h : ℕ) (bucket : List ℕ) (es : List Entered) → 1 ≤ g → 1 ≤ h → g ≤ greatest → h ≤ greatest → (g ≡ h → ⊥) → is_of g bucket ≡ true → AreOf h es → in_bucket bucket es ≡ []
+pub none_in : (g h : ℕ) (bucket : List ℕ) (es : List Entered) → 1 ≤ g → 1 ≤ h → g ≤ greatest → h ≤ greatest → (g ≡ h → ⊥) → is_of_generation g bucket ≡ true → AreOf h es → in_bucket bucket es ≡ []
 none_in g h bucket [] some_g some_h low_g low_h apart is all = refl
 none_in g h bucket (e ∷ es) some_g some_h low_g low_h apart is all =
     in_bucket_cons bucket e es ∙ by (bytes_eq bucket e.bucket) refl ∙ none_in g h bucket es some_g some_h low_g low_h apart is all.1
@@ -166,7 +166,7 @@ none_in g h bucket (e ∷ es) some_g some_h low_g low_h apart is all =
     by : (b : Bool) → bytes_eq bucket e.bucket ≡ b → (if b then e.op ∷ in_bucket bucket es else in_bucket bucket es) ≡ in_bucket bucket es
     by true same =
         let here : bucket ≡ e.bucket = (bytes_eq-Decides bucket e.bucket).0 same in
-        absurd (apart (one_generation g h bucket some_g some_h low_g low_h is (subst (λ (n : List ℕ). is_of h n ≡ true) (sym here) all.0)))
+        absurd (apart (one_generation g h bucket some_g some_h low_g low_h is (subst (λ (n : List ℕ). is_of_generation h n ≡ true) (sym here) all.0)))
     by false other = refl
 
 -- ---- what a lane takes
@@ -209,14 +209,14 @@ entry_begins : (rules : RuleSet) (source : SourceRow) (entry : Placed) → AreRu
 entry_begins rules source entry are h =
     let a = from_flat (definition_entries source) rules.definitions entry h in
     let b = from_flat (query_entries a.0 source) a.0.queries entry a.2 in
-    query_begins source a.0 b.0 entry (at_one IsSound rules.definitions a.0 are.sound a.1).name b.2
+    query_begins source a.0 b.0 entry (at_one IsSoundDefinition rules.definitions a.0 are.sound a.1).name b.2
 
 abbrev AllBegin : List Placed → Type 0
 AllBegin xs = (x : Placed) → Has xs x → begins_word x.bucket ≡ true
 
 at_begin : (rules : RuleSet) (key : Key) (row : Option (List Column)) → AreRules rules → AllBegin (entries_at rules.definitions key row)
 at_begin rules key None are x h = absurd h
-at_begin rules key (Some columns) are x h = entry_begins rules (row_of key columns) x are h
+at_begin rules key (Some columns) are x h = entry_begins rules (keyed_row key columns) x are h
 
 of_numbered : (number : ℕ) (make : ℕ → Placed → Entered) → ((n : ℕ) (x : Placed) → (make n x).bucket ≡ x.bucket) → (next : ℕ) (xs : List Placed) → AllBegin xs
     → AreOf number (marked (mark_of number) (numbered make next xs))
@@ -246,12 +246,12 @@ pub next_of : (lane : Lane) (last : ℕ) (t : Timed) → AreRules lane.rules →
 next_of lane last t are = change_of lane.number lane.rules lane.source (last + 1) t are
 
 -- an operation of a bucket is of the bucket's generation
-pub some_in : (number : ℕ) (bucket : List ℕ) (es : List Entered) → AreOf number es → (in_bucket bucket es ≡ [] → ⊥) → is_of number bucket ≡ true
+pub some_in : (number : ℕ) (bucket : List ℕ) (es : List Entered) → AreOf number es → (in_bucket bucket es ≡ [] → ⊥) → is_of_generation number bucket ≡ true
 some_in number bucket [] all some = absurd (some refl)
 some_in number bucket (e ∷ es) all some = by (bytes_eq bucket e.bucket) refl (λ rest. some_in number bucket es all.1 rest)
   where
-    by : (b : Bool) → bytes_eq bucket e.bucket ≡ b → ((in_bucket bucket es ≡ [] → ⊥) → is_of number bucket ≡ true) → is_of number bucket ≡ true
-    by true same more = subst (λ (n : List ℕ). is_of number n ≡ true) (sym ((bytes_eq-Decides bucket e.bucket).0 same)) all.0
+    by : (b : Bool) → bytes_eq bucket e.bucket ≡ b → ((in_bucket bucket es ≡ [] → ⊥) → is_of_generation number bucket ≡ true) → is_of_generation number bucket ≡ true
+    by true same more = subst (λ (n : List ℕ). is_of_generation number n ≡ true) (sym ((bytes_eq-Decides bucket e.bucket).0 same)) all.0
     by false other more = more (λ none. some (in_bucket_cons bucket e es ∙ ap (λ (b : Bool). if b then e.op ∷ in_bucket bucket es else in_bucket bucket es) other ∙ none))
 
 -- ---- names of an asker's buckets
@@ -260,7 +260,7 @@ names_begin : (rules : RuleSet) (asker : Asker) (rows : List SourceRow) → AreR
 names_begin rules asker rows are name h =
     let a = from_flat (definition_names asker rows) rules.definitions name (from_in_order _ name h) in
     let v = from_map (bucket_name_of a.0.name) (parameter_vectors a.0 asker rows) name a.2 in
-    subst (λ (n : List ℕ). begins_word n ≡ true) v.2 (bucket_begins a.0.name v.0 (at_one IsSound rules.definitions a.0 are.sound a.1).name)
+    subst (λ (n : List ℕ). begins_word n ≡ true) v.2 (bucket_begins a.0.name v.0 (at_one IsSoundDefinition rules.definitions a.0 are.sound a.1).name)
 
 -- no mark stands in front of a name that begins as a word
 told_plain : (name : List ℕ) → begins_word name ≡ true → IsTold name → IsToldBehindMark name
@@ -294,16 +294,16 @@ told_marked own name high word told number plain low is = by (nat_le own 1) refl
         sym (ap (λ (m : List ℕ). m ++ name) (mark_is own e) ∙ hash_behind (decimal own) name) ∙ is ∙ ap (λ (m : List ℕ). m ++ plain) (mark_is number f) ∙ hash_behind (decimal number) plain in
         subst IsTold (same_front (decimal own) (decimal number) name plain (decimal_digits own high).0 (decimal_digits number low).0 there).1 told
 
-told_each : (own : ℕ) → own ≤ greatest → (names : List (List ℕ)) → ((name : List ℕ) → Has names name → begins_word name ≡ true) → ArePlainTold names → AreTold (with_mark own names)
+told_each : (own : ℕ) → own ≤ greatest → (names : List (List ℕ)) → ((name : List ℕ) → Has names name → begins_word name ≡ true) → ArePlainTold names → AreToldBehindMark (with_mark own names)
 told_each own high [] words told = tt
 told_each own high (name ∷ names) words told = (told_marked own name high (words name (inl refl)) told.0, told_each own high names (λ other i. words other (inr i)) told.1)
 
 pub all_told : (own : ℕ) (rules : RuleSet) (asker : Asker) (rows : List SourceRow) → own ≤ greatest → AreRules rules → ArePlainTold (bucket_names rules.definitions asker rows)
-    → AreTold (with_mark own (bucket_names rules.definitions asker rows))
+    → AreToldBehindMark (with_mark own (bucket_names rules.definitions asker rows))
 all_told own rules asker rows high are told = told_each own high (bucket_names rules.definitions asker rows) (names_begin rules asker rows are) told
 
 -- the buckets of an asker, with a mark, are of its generation
-pub names_own : (own : ℕ) (rules : RuleSet) (asker : Asker) (rows : List SourceRow) → AreRules rules → (name : List ℕ) → Has (with_mark own (bucket_names rules.definitions asker rows)) name → is_of own name ≡ true
+pub names_own : (own : ℕ) (rules : RuleSet) (asker : Asker) (rows : List SourceRow) → AreRules rules → (name : List ℕ) → Has (with_mark own (bucket_names rules.definitions asker rows)) name → is_of_generation own name ≡ true
 names_own own rules asker rows are name h =
     let f = from_map (λ (plain : List ℕ). mark_of own ++ plain) (bucket_names rules.definitions asker rows) name h in
-    subst (λ (n : List ℕ). is_of own n ≡ true) f.2 (is_of_marked own f.0 (names_begin rules asker rows are f.0 f.1))
+    subst (λ (n : List ℕ). is_of_generation own n ≡ true) f.2 (is_of_marked own f.0 (names_begin rules asker rows are f.0 f.1))

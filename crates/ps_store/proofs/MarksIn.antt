@@ -8,7 +8,7 @@ use Rattle.std.proofs.lemmas.List.{drop_more}
 use Rattle.std.proofs.lemmas.Str.{IsUtf8-from_ascii}
 use Rattle.std.proofs.lemmas.Bool.{and_from, eq-eqb}
 use Rattle.std.proofs.lemmas.Bool.Decides.{nat_tests}
-use Rattle.ps_store.specs.Generations.{mark_of, begins_with_digit, begins_with, is_of}
+use Rattle.ps_store.specs.Generations.{mark_of, begins_with_digit, begins_with, is_of_generation}
 use Rattle.ps_store.specs.Limits.{greatest}
 use Rattle.ps_store.specs.Originals.{Entered}
 use Rattle.ps_store.specs.Steps.{marked}
@@ -45,7 +45,7 @@ numbered_front (b ∷ bytes) mark h = by (is_ascii_digit b) (b == 35) refl (numb
     by false false e found rest k = absurd (cc)
 
 -- a bucket of a generation has its mark in front
-pub mark_in_is : (number : ℕ) (bucket : List ℕ) → number ≤ greatest → is_of number bucket ≡ true → mark_in bucket ≡ Some (mark_of number)
+pub mark_in_is : (number : ℕ) (bucket : List ℕ) → number ≤ greatest → is_of_generation number bucket ≡ true → mark_in bucket ≡ Some (mark_of number)
 mark_in_is number bucket low h = by (nat_le number 1) refl
   where
     by : (b : Bool) → nat_le number 1 ≡ b → mark_in bucket ≡ Some (mark_of number)
@@ -63,10 +63,10 @@ mark_in_is number bucket low h = by (nat_le number 1) refl
         ap (λ (b : Bool). if b then numbered_mark bucket else Some []) digit ∙ ap numbered_mark r.1 ∙ numbered_is (decimal number) r.0 d.0 ∙ ap Some (sym (mark_is number e))
 
 -- and a bucket with a generation's mark in front is of it
-pub mark_in_of : (number : ℕ) (bucket : List ℕ) → mark_in bucket ≡ Some (mark_of number) → is_of number bucket ≡ true
+pub mark_in_of : (number : ℕ) (bucket : List ℕ) → mark_in bucket ≡ Some (mark_of number) → is_of_generation number bucket ≡ true
 mark_in_of number bucket h = by (nat_le number 1) refl (begins_with_digit bucket) refl h
   where
-    by : (first : Bool) → nat_le number 1 ≡ first → (digit : Bool) → begins_with_digit bucket ≡ digit → (if digit then numbered_mark bucket else Some []) ≡ Some (mark_of number) → is_of number bucket ≡ true
+    by : (first : Bool) → nat_le number 1 ≡ first → (digit : Bool) → begins_with_digit bucket ≡ digit → (if digit then numbered_mark bucket else Some []) ≡ Some (mark_of number) → is_of_generation number bucket ≡ true
     by true e true d k =
         let f = numbered_front bucket [] (k ∙ ap Some (mark_none number e)) in
         absurd (omega (arith, f.1))

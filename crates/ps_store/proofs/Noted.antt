@@ -9,7 +9,7 @@ use Rattle.std.proofs.lemmas.Slice.Eq.{bytes_eq-Decides}
 use Rattle.ps_rows.specs.Source.{Key, Source, key_cmp}
 use Rattle.ps_definitions.specs.declared.definitions.Definition.{Definition}
 use Rattle.ps_definitions.specs.Tables.{is_read}
-use Rattle.ps_params.specs.Notes.{Note, SameFrom, counts_for, row_at}
+use Rattle.ps_params.specs.Notes.{Note, SameFrom, counts_for, noted_row}
 use Rattle.ps_store.specs.Noting.{noted, with_note}
 use Rattle.ps_store.specs.Originals.{Timed, key_of, columns_of, after}
 use Rattle.ps_store.specs.Tails.{notes_after}
@@ -55,24 +55,24 @@ module _ (table id : List ℕ) (p : ℕ) where
   module _ (definitions : List Definition) where
     -- where the table is read
     module _ (read : is_read definitions table ≡ true) where
-      one : (notes : List Note) (t : Timed) → t.position ≤ p → row_at (with_note definitions notes (noted t)) table id p ≡ cond (eq_by_cmp key_cmp key (key_of t)) t.change.row (row_at notes table id p)
+      one : (notes : List Note) (t : Timed) → t.position ≤ p → noted_row (with_note definitions notes (noted t)) table id p ≡ cond (eq_by_cmp key_cmp key (key_of t)) t.change.row (noted_row notes table id p)
       one notes t low = by (is_read definitions t.change.table) refl
         where
-          by : (b : Bool) → is_read definitions t.change.table ≡ b → row_at (if b then notes ++ noted t ∷ [] else notes) table id p ≡ cond (eq_by_cmp key_cmp key (key_of t)) t.change.row (row_at notes table id p)
+          by : (b : Bool) → is_read definitions t.change.table ≡ b → noted_row (if b then notes ++ noted t ∷ [] else notes) table id p ≡ cond (eq_by_cmp key_cmp key (key_of t)) t.change.row (noted_row notes table id p)
           by true e =
               after_more table id p None notes (noted t)
-              ∙ ap (λ (b : Bool). if b then t.change.row else row_at notes table id p) (counts_is t low)
+              ∙ ap (λ (b : Bool). if b then t.change.row else noted_row notes table id p) (counts_is t low)
           by false e = other (eq_by_cmp key_cmp key (key_of t)) refl
             where
-              other : (b : Bool) → eq_by_cmp key_cmp key (key_of t) ≡ b → row_at notes table id p ≡ cond b t.change.row (row_at notes table id p)
+              other : (b : Bool) → eq_by_cmp key_cmp key (key_of t) ≡ b → noted_row notes table id p ≡ cond b t.change.row (noted_row notes table id p)
               other false f = refl
               other true f =
                   let same : table ≡ t.change.table = ap (λ (k : Key). k.0) (equal_rows key (key_of t) f) in
                   let wrong : true ≡ false = sym read ∙ ap (is_read definitions) same ∙ e in
                   absurd (cc)
 
-      pub rows_noted : (ts : List Timed) (source : Source) (notes : List Note) → AllUpTo p ts → row_at notes table id p ≡ columns_of (find key_cmp key source)
-          → row_at (notes_after definitions notes ts) table id p ≡ columns_of (find key_cmp key (after_all source ts))
+      pub rows_noted : (ts : List Timed) (source : Source) (notes : List Note) → AllUpTo p ts → noted_row notes table id p ≡ columns_of (find key_cmp key source)
+          → noted_row (notes_after definitions notes ts) table id p ≡ columns_of (find key_cmp key (after_all source ts))
       rows_noted [] source notes low same = same
       rows_noted (t ∷ ts) source notes low same =
           rows_noted ts (after source t) (with_note definitions notes (noted t)) low.1
@@ -80,12 +80,12 @@ module _ (table id : List ℕ) (p : ℕ) where
 
     -- where it is not
     module _ (unread : is_read definitions table ≡ false) where
-      passed : (notes : List Note) (t : Timed) → row_at (with_note definitions notes (noted t)) table id p ≡ row_at notes table id p
+      passed : (notes : List Note) (t : Timed) → noted_row (with_note definitions notes (noted t)) table id p ≡ noted_row notes table id p
       passed notes t = by (is_read definitions t.change.table) refl (counts_for table id p (noted t)) refl
         where
-          by : (b : Bool) → is_read definitions t.change.table ≡ b → (c : Bool) → counts_for table id p (noted t) ≡ c → row_at (if b then notes ++ noted t ∷ [] else notes) table id p ≡ row_at notes table id p
+          by : (b : Bool) → is_read definitions t.change.table ≡ b → (c : Bool) → counts_for table id p (noted t) ≡ c → noted_row (if b then notes ++ noted t ∷ [] else notes) table id p ≡ noted_row notes table id p
           by false e c f = refl
-          by true e false f = after_more table id p None notes (noted t) ∙ ap (λ (b : Bool). if b then t.change.row else row_at notes table id p) f
+          by true e false f = after_more table id p None notes (noted t) ∙ ap (λ (b : Bool). if b then t.change.row else noted_row notes table id p) f
           by true e true f =
               let parts = and_parts (nat_le t.position p) (bytes_eq t.change.table table && bytes_eq t.change.id id) f in
               let both = and_parts (bytes_eq t.change.table table) (bytes_eq t.change.id id) parts.1 in
@@ -93,7 +93,7 @@ module _ (table id : List ℕ) (p : ℕ) where
               let wrong : true ≡ false = sym e ∙ ap (is_read definitions) same ∙ unread in
               absurd (cc)
 
-      pub rows_unread : (ts : List Timed) (notes : List Note) → row_at (notes_after definitions notes ts) table id p ≡ row_at notes table id p
+      pub rows_unread : (ts : List Timed) (notes : List Note) → noted_row (notes_after definitions notes ts) table id p ≡ noted_row notes table id p
       rows_unread [] notes = refl
       rows_unread (t ∷ ts) notes = rows_unread ts (with_note definitions notes (noted t)) ∙ passed notes t
 
@@ -106,7 +106,7 @@ pub noted_alike : (definitions : List Definition) (p : ℕ) (us ts : List Timed)
 noted_alike definitions p us ts low_us low_ts same = λ table id position past. by table id position past (is_read definitions table) refl
   where
     by : (table id : List ℕ) (position : ℕ) → p ≤ position → (b : Bool) → is_read definitions table ≡ b
-        → row_at (notes_after definitions [] us) table id position ≡ row_at (notes_after definitions [] ts) table id position
+        → noted_row (notes_after definitions [] us) table id position ≡ noted_row (notes_after definitions [] ts) table id position
     by table id position past true read =
         rows_noted table id position definitions read us [] [] (higher p position us past low_us) refl
         ∙ ap (λ (source : Source). columns_of (find key_cmp (table, id) source)) same

@@ -14,14 +14,14 @@ use Rattle.ps_store.specs.Generations.{mark_of, with_change, Coming, queue_in, E
 use Rattle.ps_store.specs.Readings.{with_mark, batch_in}
 use Rattle.ps_bucket_log.specs.Ops.{sum_of}
 use Rattle.ps_store.specs.Histories.{written_in, has_deploy, TellsOne}
-use Rattle.ps_store.specs.Totals.{ops_of, in_generation, names_of as buckets_in}
+use Rattle.ps_store.specs.Totals.{entered_ops, in_generation, buckets_entered as buckets_in}
 use Rattle.ps_store.specs.TotalsLaws.{written_ops, WrittenTell}
 use Rattle.ps_store.proofs.Recording.{tells_feeds}
-use Rattle.ps_store.specs.Ledgers.{Given, Ledger, fresh, timed_of, unwritten, next_ops, newest_of, write_next, ledger_after, ledger_of, op_at, CanCome, IsLegalFrom, IsLegal}
+use Rattle.ps_store.specs.Ledgers.{GivenIds, Ledger, fresh_ledger, timed_of, unwritten, next_ops, newest_of, write_next, ledger_after, ledger_of, op_at, CanCome, IsLegalFrom, IsLegal}
 use Rattle.ps_store.specs.LedgerLaws.{TellsOps, ReadsOne}
 use Rattle.ps_store.specs.Originals.{Entered, Timed, timed, after, change_ops, ops_from, original}
 use Rattle.ps_store.specs.StepLaws.{transactions_upto}
-use Rattle.ps_store.specs.Steps.{Step, marked, changes_of, lane_ops, StepsRise}
+use Rattle.ps_store.specs.Steps.{Step, marked, step_changes, lane_ops, StepsRise}
 use Rattle.ps_store.proofs.Fronts.{not_le, past_from, upto_timed, Climbs, timed_climb, climbs_take, none_upto, moments_take, written_upto}
 use Rattle.ps_store.proofs.Moments.{after_all, timed_rise}
 use Rattle.ps_store.proofs.Lanes.{unmarked, greater}
@@ -33,7 +33,7 @@ use Rattle.ps_store.proofs.Telling.{ledgers_tell, CountsOf, counts_write, counts
 
 -- ---- changes whose ids follow one another, one more
 
-abbrev given_of : List Definition → Source → ℕ → List Timed → List Given
+abbrev given_of : List Definition → Source → ℕ → List Timed → List GivenIds
 given_of definitions source last [] = []
 given_of definitions source last (t ∷ ts) =
     (record { position = t.position; newest = newest_of last (change_ops definitions source (last + 1) t) })
@@ -85,8 +85,8 @@ module _ (definitions : List Definition) where
   given_push source last [] t = ap (λ (n : ℕ). (record { position = t.position; newest = newest_of n (change_ops definitions source (n + 1) t) }) ∷ []) (none_more last)
   given_push source last (x ∷ ts) t =
       let ops : List Entered = change_ops definitions source (last + 1) x in
-      let g : Given = record { position = x.position; newest = newest_of last ops } in
-      ap (λ (gs : List Given). g ∷ gs) (given_push (after source x) (last + length ops) ts t)
+      let g : GivenIds = record { position = x.position; newest = newest_of last ops } in
+      ap (λ (gs : List GivenIds). g ∷ gs) (given_push (after source x) (last + length ops) ts t)
       ∙ (λ i. g ∷ (given_of definitions (after source x) (last + length ops) ts
       ++ (record { position = t.position; newest = newest_of (ids_cons source last x ts i) (change_ops definitions (after_all (after source x) ts) (ids_cons source last x ts i + 1) t) }) ∷ []))
 
@@ -141,7 +141,7 @@ one_writes rules (t ∷ us) rest l is next counts h =
     let left : unwritten (write_next l t) ≡ us ++ rest = ap (λ (k : ℕ). drop k (timed l.fed)) (plus_one l.written) ∙ (drop_next l.written (timed l.fed) (us ++ rest) t is).1 in
     one_writes rules us rest (write_next l t) left next (next l t (us ++ rest) is counts) (one_write rules l t (us ++ rest) is counts h)
 
-op_up : (gs : List Given) (a b p q : ℕ) → a ≤ b → p ≤ q → fold (λ (op : ℕ) (g : Given). if nat_le g.position p then max op g.newest else op) a gs ≤ fold (λ (op : ℕ) (g : Given). if nat_le g.position q then max op g.newest else op) b gs
+op_up : (gs : List GivenIds) (a b p q : ℕ) → a ≤ b → p ≤ q → fold (λ (op : ℕ) (g : GivenIds). if nat_le g.position p then max op g.newest else op) a gs ≤ fold (λ (op : ℕ) (g : GivenIds). if nat_le g.position q then max op g.newest else op) b gs
 op_up [] a b p q low up = low
 op_up (g ∷ gs) a b p q low up = op_up gs (if nat_le g.position p then max a g.newest else a) (if nat_le g.position q then max b g.newest else b) p q (by (nat_le g.position p) refl (nat_le g.position q) refl) up
   where
@@ -210,10 +210,10 @@ one_from rules (e ∷ history) l plain next legal counts h =
     one_from rules history (ledger_after l e) parts.1 next legal.1 (counts_event l e legal.0 counts) (one_event rules l e parts.0 next legal.0 counts h)
 
 pub one_history : (rules : RuleSet) (history : List Event) → IsLegal rules history → has_deploy history ≡ false → IsOne rules (ledger_of rules history)
-one_history rules history legal plain = one_from rules history (fresh rules) plain counts_write legal (counts_history rules [] tt)
+one_history rules history legal plain = one_from rules history (fresh_ledger rules) plain counts_write legal (counts_history rules [] tt)
     (record { building = refl; ended = refl; wrote = refl; number = refl; rules_are = refl; steps = refl; source = refl; entered = refl; last = refl; given = refl; op = refl })
 
-steps_changes : (definitions : List Definition) (source : Source) (next : ℕ) (ts : List Timed) → changes_of (steps_of definitions source next ts) ≡ ts
+steps_changes : (definitions : List Definition) (source : Source) (next : ℕ) (ts : List Timed) → step_changes (steps_of definitions source next ts) ≡ ts
 steps_changes definitions source next [] = refl
 steps_changes definitions source next (t ∷ ts) = ap (λ us. t ∷ us) (steps_changes definitions (after source t) (next + length (change_ops definitions source next t)) ts)
 
@@ -228,7 +228,7 @@ tells_one rules history legal plain =
       building = h.building;
       ended = h.ended;
       rules_are = h.rules_are;
-      changes = ap changes_of h.steps ∙ steps_changes rules.definitions [] 1 done;
+      changes = ap step_changes h.steps ∙ steps_changes rules.definitions [] 1 done;
       source = h.source ∙ sym (fold_after done []);
       entered = h.entered;
       by_steps = h.entered ∙ sym (steps_of-ops rules.definitions [] 1 done) ∙ sym (lane_unmarked rules.definitions [] (steps_of rules.definitions [] 1 done)) ∙ ap (lane_ops [] rules.definitions []) (sym h.steps);
@@ -280,8 +280,8 @@ reads_one rules history legal plain =
 
 -- ---- ops
 
-abbrev op_from : ℕ → ℕ → List Given → ℕ
-op_from op p gs = fold (λ (op : ℕ) (g : Given). if nat_le g.position p then max op g.newest else op) op gs
+abbrev op_from : ℕ → ℕ → List GivenIds → ℕ
+op_from op p gs = fold (λ (op : ℕ) (g : GivenIds). if nat_le g.position p then max op g.newest else op) op gs
 
 none_given : (definitions : List Definition) (source : Source) (last op p q : ℕ) (ts : List Timed) → Climbs q ts → p < q → op_from op p (given_of definitions source last ts) ≡ op
 none_given definitions source last op p q [] h less = refl
@@ -340,4 +340,4 @@ written_tell rules history legal plain =
     let ops : l.entered ≡ written_ops rules history =
     h.entered ∙ ap (λ (n : ℕ). ops_from rules.definitions [] 1 (take n (timed l.fed))) t.count
     ∙ ap (λ (fed : List Transaction). ops_from rules.definitions [] 1 (take (written_in history) (timed fed))) (tells_feeds rules history).fed in
-    record { operations = ap length ops; sum = ap (λ (es : List Entered). sum_of (ops_of es)) ops }
+    record { operations = ap length ops; sum = ap (λ (es : List Entered). sum_of (entered_ops es)) ops }

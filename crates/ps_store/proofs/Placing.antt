@@ -10,7 +10,7 @@ use Rattle.ps_store.specs.Ledgers.{head_of, reached_by}
 use Rattle.ps_store.specs.Originals.{Entered, Timed, timed}
 use Rattle.ps_store.specs.Reach.{Reached, settled_from}
 use Rattle.ps_store.specs.StepLaws.{transactions_upto}
-use Rattle.ps_store.specs.Steps.{changes_of}
+use Rattle.ps_store.specs.Steps.{step_changes}
 use Rattle.ps_store.proofs.Cutting.{StepsBelow, StepsCut, cut_whole}
 use Rattle.ps_store.proofs.Fronts.{not_le, is_le, le_from, past_from, upto_timed, upto-timed, Climbs, timed_climb, none_upto}
 use Rattle.ps_store.proofs.Generating.{IsLane}
@@ -76,7 +76,7 @@ pub record AtPlace (fed : List Transaction) (written : ℕ) (force : Lane) (p c 
   pub low : p ≤ head_of fed
   pub all : length (timed (transactions_upto p fed)) ≤ written
   pub cut : StepsCut p c force.rules.definitions [] force.steps
-  pub source : after_all [] (upto_timed p (changes_of force.steps)) ≡ source_at fed p
+  pub source : after_all [] (upto_timed p (step_changes force.steps)) ≡ source_at fed p
 
 -- with no change over, what is reached is all that is written
 pub all_reached : (fed : List Transaction) (written : ℕ) (reach : Reached) → Rises 0 fed → SamePlace reach (placed written fed) → reach.over ≡ 0
@@ -95,7 +95,7 @@ place_whole fed written reach force entered last begun rest c rises place none l
     let p : ℕ = reach.position in
     let done : take written (timed fed) ≡ timed (transactions_upto p fed) = all_reached fed written reach rises place none in
     let upto : AllUpTo p (take written (timed fed)) = subst (AllUpTo p) (upto-timed p fed ∙ sym done) (upto_low p (timed fed)) in
-    let steps : AllUpTo p (changes_of force.steps) = (lane.low p upto).0 in
+    let steps : AllUpTo p (step_changes force.steps) = (lane.low p upto).0 in
     let at : p ≡ reached_by 0 written fed = place.position ∙ reached_is fed 0 0 0 written in
     let count : written ≡ reach.over + length (timed (transactions_upto p fed)) = over_is fed 0 0 0 written rises ∙ (λ i. sym place.over i + length (timed (transactions_upto (sym at i) fed))) in
     record {
@@ -103,7 +103,7 @@ place_whole fed written reach force entered last begun rest c rises place none l
       all = omega (arith, count);
       cut = cut_whole p c force.rules.definitions [] force.steps steps below;
       source =
-          ap (after_all []) (upto_whole p (changes_of force.steps) steps)
+          ap (after_all []) (upto_whole p (step_changes force.steps) steps)
           ∙ sym (source_changes [] force.steps) ∙ sym lane.source ∙ lane.whole
           ∙ ap (after_all []) done ∙ transactions_leave (transactions_upto p fed) [];
     }

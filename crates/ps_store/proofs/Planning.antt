@@ -19,8 +19,8 @@ use Rattle.ps_store.specs.declared.rows.Rows.{Rows}
 use Rattle.ps_store.specs.Ledgers.{Ledger, entries_after, next_ops, write_next}
 use Rattle.ps_store.specs.Noting.{row_noted}
 use Rattle.ps_store.specs.Originals.{Timed, key_of, after, entries_at, columns_of, standing_entries, stays, removed, put, leaving, numbered}
-use Rattle.ps_store.specs.Places.{Place, place_of, is_taken, places_left, removed_all}
-use Rattle.ps_store.specs.Plans.{PlanStands, IsStart, IsMade, row_left, row_seen}
+use Rattle.ps_store.specs.Places.{Place, entry_place, is_taken, places_left, removed_all}
+use Rattle.ps_store.specs.Plans.{PlanStands, IsStart, MakesEntries, row_left, row_seen}
 use Rattle.ps_store.specs.Rows.{row_at}
 use Rattle.ps_store.specs.Runs.{refusal_of, lasts_from}
 use Rattle.ps_store.specs.Tails.{ids, AreRowsOf}
@@ -60,14 +60,14 @@ rows_push definitions (y ∷ ms) (x ∷ ts) m t e h same = (h.0, rows_push defin
 -- ---- places of entries
 
 -- what leaves by places is what leaves by entries
-left_by_places : (before left : List Placed) → places_left (map place_of before) left ≡ map place_of (leaving before left)
+left_by_places : (before left : List Placed) → places_left (map entry_place before) left ≡ map entry_place (leaving before left)
 left_by_places [] left = refl
 left_by_places (x ∷ before) left = by (stays left x) (left_by_places before left)
   where
-    by : (b : Bool) → places_left (map place_of before) left ≡ map place_of (leaving before left)
-        → cond (not b) (place_of x ∷ places_left (map place_of before) left) (places_left (map place_of before) left) ≡ map place_of (cond (not b) (x ∷ leaving before left) (leaving before left))
+    by : (b : Bool) → places_left (map entry_place before) left ≡ map entry_place (leaving before left)
+        → cond (not b) (entry_place x ∷ places_left (map entry_place before) left) (places_left (map entry_place before) left) ≡ map entry_place (cond (not b) (x ∷ leaving before left) (leaving before left))
     by true rest = rest
-    by false rest = ap (λ ps. place_of x ∷ ps) rest
+    by false rest = ap (λ ps. entry_place x ∷ ps) rest
 
 -- one more place is looked for
 left_more : (after : List Placed) (before : List Place) (i : ℕ) (x : Place) → i < length before → x ≡ get_or before i x
@@ -85,7 +85,7 @@ pub left_free : (after : List Placed) (before : List Place) (i : ℕ) (x : Place
 left_free after before i x within is free =
     sym (left_more after before i x within is ∙ ap (λ b. places_left (take i before) after ++ cond (not b) (x ∷ []) []) free)
 
-removed_by_places : (next : ℕ) (gone : List Placed) → removed_all next (map place_of gone) ≡ numbered removed next gone
+removed_by_places : (next : ℕ) (gone : List Placed) → removed_all next (map entry_place gone) ≡ numbered removed next gone
 removed_by_places next [] = refl
 removed_by_places next (x ∷ gone) = ap (λ es. removed next x ∷ es) (removed_by_places (next + 1) gone)
 
@@ -130,7 +130,7 @@ module _ (limits : Limits) (rules : RuleSet) (base : Ledger) (ts : List Timed) (
 
     -- what a change makes of the row as it was seen is what it makes over the ledger
     pub is_made : (entries : ChangeEntries) → entries.before ≡ entries_at rules.definitions (key_of t) (row_seen old rows changes (key_of t))
-        → entries.after ≡ entries_at rules.definitions (key_of t) t.change.row → length entries.after ≤ limits.entries → IsMade limits now t entries
+        → entries.after ≡ entries_at rules.definitions (key_of t) t.change.row → length entries.after ≤ limits.entries → MakesEntries limits now t entries
     is_made entries before after narrow = record {
       before =
           before ∙ ap (entries_at rules.definitions (key_of t)) (h.stand (key_of t))
@@ -139,24 +139,24 @@ module _ (limits : Limits) (rules : RuleSet) (base : Ledger) (ts : List Timed) (
       narrow = narrow;
     }
 
-  module _ (rows : Rows) (changes : List Timed) (old : Plan) (h : PlanStands rules rows changes old base ts) (entries : ChangeEntries) (made_is : IsMade limits now t entries)
-      (gone : List Place) (is_gone : gone ≡ places_left (map place_of entries.before) entries.after) where
+  module _ (rows : Rows) (changes : List Timed) (old : Plan) (h : PlanStands rules rows changes old base ts) (entries : ChangeEntries) (made_is : MakesEntries limits now t entries)
+      (gone : List Place) (is_gone : gone ≡ places_left (map entry_place entries.before) entries.after) where
     abbrev standing : List Placed
     standing = standing_entries now.force.rules.definitions now.force.source (key_of t)
 
     abbrev left : List Placed
     left = entries.after
 
-    gone_is : gone ≡ map place_of (leaving standing left)
-    gone_is = is_gone ∙ left_by_places entries.before left ∙ ap (λ before. map place_of (leaving before left)) made_is.before
+    gone_is : gone ≡ map entry_place (leaving standing left)
+    gone_is = is_gone ∙ left_by_places entries.before left ∙ ap (λ before. map entry_place (leaving before left)) made_is.before
 
     left_is : left ≡ entries_after now t
     left_is = made_is.after
 
     change_is : next_ops now t ≡ removed_all (now.last + 1) gone ++ numbered put (now.last + 1 + length gone) left
     change_is = next_plain now t (next_number ts base ∙ h.number) ∙ sym (ap (λ g. removed_all (now.last + 1) g ++ numbered put (now.last + 1 + length g) left) gone_is
-        ∙ ap (λ es. es ++ numbered put (now.last + 1 + length (map place_of (leaving standing left))) left) (removed_by_places (now.last + 1) (leaving standing left))
-        ∙ ap (λ n. numbered removed (now.last + 1) (leaving standing left) ++ numbered put (now.last + 1 + n) left) (length_map place_of (leaving standing left))
+        ∙ ap (λ es. es ++ numbered put (now.last + 1 + length (map entry_place (leaving standing left))) left) (removed_by_places (now.last + 1) (leaving standing left))
+        ∙ ap (λ n. numbered removed (now.last + 1) (leaving standing left) ++ numbered put (now.last + 1 + n) left) (length_map entry_place (leaving standing left))
         ∙ ap (λ a. (let g = leaving standing a in numbered removed (now.last + 1) g ++ numbered put (now.last + 1 + length g) a)) left_is)
 
     change_length : length (next_ops now t) ≡ length gone + length left

@@ -4,7 +4,7 @@ use Rattle.std.specs.Prelude.{◌&&◌, nat_lt}
 use Rattle.std.proofs.lemmas.Bool.{and_parts, ltb-true}
 use Rattle.ps_definitions.specs.declared.queries.Planned.{Planned}
 use Rattle.ps_definitions.specs.declared.definitions.Definition.{Definition}
-use Rattle.ps_definitions.specs.RuleSets.{rises_past, numbers_of}
+use Rattle.ps_definitions.specs.RuleSets.{rises_past, all_query_numbers}
 use Rattle.ps_data.proofs.Members.{Has, has_right, has_map, has_flat}
 
 rises_above : (before : ℕ) (ns : List ℕ) (n : ℕ) → rises_past before ns ≡ true → Has ns n → before < n
@@ -57,21 +57,21 @@ same_query before (x ∷ xs) p q h i j e =
       ]
     ]
 
-has_numbers : (definitions : List Definition) (d : Definition) (q : Planned) → Has definitions d → Has d.queries q → Has (numbers_of definitions) q.number
+has_numbers : (definitions : List Definition) (d : Definition) (q : Planned) → Has definitions d → Has d.queries q → Has (all_query_numbers definitions) q.number
 has_numbers definitions d q i j = has_flat (λ (x : Definition). numbers x.queries) definitions d q.number i (has_number d.queries q j)
 
-pub same_place : (before : ℕ) (definitions : List Definition) (c d : Definition) (p q : Planned) → rises_past before (numbers_of definitions) ≡ true
+pub same_place : (before : ℕ) (definitions : List Definition) (c d : Definition) (p q : Planned) → rises_past before (all_query_numbers definitions) ≡ true
     → Has definitions c → Has c.queries p → Has definitions d → Has d.queries q → p.number ≡ q.number → (c ≡ d) × (p ≡ q)
 same_place before [] c d p q h i ip j jq e = absurd i
 same_place before (x ∷ xs) c d p q h i ip j jq e =
-    let apart = λ (a : ℕ) (b : ℕ). rises_apart before (numbers x.queries) (numbers_of xs) a b h in
+    let apart = λ (a : ℕ) (b : ℕ). rises_apart before (numbers x.queries) (all_query_numbers xs) a b h in
     elim i [
       | inl a ↦ let here : Has x.queries p = subst (λ (z : Definition). Has z.queries p) (sym a) ip in elim j [
-        | inl b ↦ (sym a ∙ b, same_query before x.queries p q (rises_left before (numbers x.queries) (numbers_of xs) h) here (subst (λ (z : Definition). Has z.queries q) (sym b) jq) e)
+        | inl b ↦ (sym a ∙ b, same_query before x.queries p q (rises_left before (numbers x.queries) (all_query_numbers xs) h) here (subst (λ (z : Definition). Has z.queries q) (sym b) jq) e)
         | inr b ↦ absurd (omega (arith, e, apart p.number q.number (has_number x.queries p here) (has_numbers xs d q b jq)))
       ]
       | inr a ↦ elim j [
         | inl b ↦ absurd (omega (arith, e, apart q.number p.number (has_number x.queries q (subst (λ (z : Definition). Has z.queries q) (sym b) jq)) (has_numbers xs c p a ip)))
-        | inr b ↦ let r = rises_right before (numbers x.queries) (numbers_of xs) h in same_place r.0 xs c d p q r.1 a ip b jq e
+        | inr b ↦ let r = rises_right before (numbers x.queries) (all_query_numbers xs) h in same_place r.0 xs c d p q r.1 a ip b jq e
       ]
     ]

@@ -22,7 +22,7 @@ use Rattle.ps_store.specs.Originals.{Timed}
 use Rattle.ps_store.specs.Runs.{Run, run_from, ops_from}
 use Rattle.ps_store.specs.StoreGenerations.{log_in, place_in, HavePlaces, IsBuilding, StandsIn}
 use Rattle.ps_store.specs.StoreLogs.{log_at}
-use Rattle.ps_store.specs.Stores.{IsKept, Stands, StoreStandsFor}
+use Rattle.ps_store.specs.Stores.{IsKept, StandsForLedger, StoreStandsFor}
 use Rattle.ps_store.specs.Totals.{totals_of, HaveRoom}
 use Rattle.ps_store.proofs.Abandoning.{IsOf, is_built}
 use Rattle.ps_store.proofs.AsForce.{HasTaken, as_it_is, takes_all, with_taken}
@@ -192,7 +192,7 @@ module _ (fixed : Fixed) (old : Store) (history : List Event) (h : StoreStandsFo
       abbrev store : Store
       store = record old { last = batched.last; totals = totals; generations = with_built new }
 
-      stands_n : Stands store n
+      stands_n : StandsForLedger store n
       stands_n = record {
         rules = h.stands.rules;
         by_limits = h.stands.by_limits;
@@ -244,5 +244,5 @@ module _ (fixed : Fixed) (old : Store) (history : List Event) (h : StoreStandsFo
               g.some,
               omega (arith, count_there, ap (λ (o : Option Coming). length (queue_in o)) b.is),
               omega (arith, ap (λ (x : Ledger). x.last) ledger_is, g.last, last_low, h.limits.ops),
-            ) (subst (Stands store) (n_is ∙ sym ledger_is) stands_n),
+            ) (subst (StandsForLedger store) (n_is ∙ sym ledger_is) stands_n),
           )

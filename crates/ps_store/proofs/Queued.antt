@@ -11,7 +11,7 @@ use Rattle.ps_store.specs.Ledgers.{Ledger, write_next}
 use Rattle.ps_store.specs.Limits.{greatest}
 use Rattle.ps_store.specs.Originals.{Entered, Timed, in_bucket}
 use Rattle.ps_store.specs.Rows.{row_at}
-use Rattle.ps_store.specs.Steps.{changes_of}
+use Rattle.ps_store.specs.Steps.{step_changes}
 use Rattle.ps_store.specs.StoreGenerations.{mark_in, Endings, ending_from, ending_by, place_in, BuildingStands, GenerationsStand, HasQueued, HavePlaces, HaveQueued, IndexStandsFor, IsBuilding, IsCopyOf, IsQueued}
 use Rattle.ps_store.specs.StoreLogs.{log_at}
 use Rattle.ps_store.proofs.Marks.{AreOf}
@@ -57,8 +57,8 @@ module _ (log : List ℕ → List Op) (es : List Entered) (force : ℕ) (positio
     rules = ap (λ (f : Fixed). f.rules) q.by ∙ h.rules;
     logs = λ bucket. ap (λ logs. log_at logs bucket) q.logs ∙ h.logs bucket ∙ other_log coming.lane.number force log es bucket some some_force low low_force apart own;
     rows = λ key. ap (λ rows. row_at rows key) q.rows ∙ h.rows key;
-    index = subst (λ (us : List Timed). IndexStandsFor new.index coming.lane.rules position (changes_of coming.lane.steps) us head) (sym (append_assoc coming.queue ts rest))
-        (subst (λ (index : Index). IndexStandsFor index coming.lane.rules position (changes_of coming.lane.steps) (coming.queue ++ (ts ++ rest)) head) (sym q.index) h.index);
+    index = subst (λ (us : List Timed). IndexStandsFor new.index coming.lane.rules position (step_changes coming.lane.steps) us head) (sym (append_assoc coming.queue ts rest))
+        (subst (λ (index : Index). IndexStandsFor index coming.lane.rules position (step_changes coming.lane.steps) (coming.queue ++ (ts ++ rest)) head) (sym q.index) h.index);
     queue = q.queue ∙ ap (λ (us : List Timed). us ++ ts) h.queue;
     narrow = λ key. omega (arith, h.narrow key, ap (λ (f : Fixed). f.limits.entries) q.by);
   }

@@ -10,7 +10,7 @@ use Rattle.ps_rows.specs.Source.{Key, key_cmp, Version, Source}
 use Rattle.ps_rows.specs.Keys.{keys_total, keys_exact, find-after_row, sorted-after_row}
 use Rattle.ps_store.specs.Generations.{last_change, is_earlier, queued, queue_of}
 use Rattle.ps_store.specs.Originals.{Timed, key_of, after}
-use Rattle.ps_store.specs.Steps.{Step, source_after, changes_of}
+use Rattle.ps_store.specs.Steps.{Step, source_after, step_changes}
 use Rattle.ps_store.proofs.Apart.{HaveMoments, moments_after, moments_past}
 use Rattle.ps_store.proofs.Copies.{find_there, from_find}
 use Rattle.ps_data.proofs.Members.{Has}
@@ -248,7 +248,7 @@ pub record Ends (source : Source) (rest : List Timed) : Type 0 where
   pub have : HaveMoments position index source
   pub rise : MomentsRise position index rest
 
-pub ends_of : (position index : ℕ) (source : Source) (ss : List Step) (rest : List Timed) → MomentsRise position index (changes_of ss ++ rest) → HaveMoments position index source → Ends (source_after source ss) rest
+pub ends_of : (position index : ℕ) (source : Source) (ss : List Step) (rest : List Timed) → MomentsRise position index (step_changes ss ++ rest) → HaveMoments position index source → Ends (source_after source ss) rest
 ends_of position index source [] rest rise have = record { position = position; index = index; have = have; rise = rise }
 ends_of position index source (s ∷ ss) rest rise have =
     let t : Timed = s.timed in

@@ -7,7 +7,7 @@ use Rattle.ps_definitions.specs.RuleSets.{RuleSet}
 use Rattle.ps_store.specs.declared.events.Event.{Event}
 use Rattle.ps_store.specs.declared.events.Event.TheVariants.{Feed, Close, Write, Commit, Compact, WriteCheckpoint, Deploy, Build, Switch, Abandon}
 use Rattle.ps_store.specs.Generations.{Coming, queue_in}
-use Rattle.ps_store.specs.Ledgers.{Ledger, fresh, unwritten, write_next, build_with, build_next, switch_to, drop_coming, ledger_after, ledger_of, IsLegalFrom, IsLegal}
+use Rattle.ps_store.specs.Ledgers.{Ledger, fresh_ledger, unwritten, write_next, build_with, build_next, switch_to, drop_coming, ledger_after, ledger_of, IsLegalFrom, IsLegal}
 use Rattle.ps_store.specs.LedgerLaws.{fed_in, has_close, moves_checkpoint, TellsFeeds}
 use Rattle.ps_store.specs.Originals.{Timed}
 
@@ -92,7 +92,7 @@ closed_from (Switch ∷ history) l = closed_same history l (ledger_after l Switc
 closed_from (Abandon ∷ history) l = closed_same history l (ledger_after l Abandon) (drop_rests l.building l).closed (closed_from history (ledger_after l Abandon))
 
 pub tells_feeds : (rules : RuleSet) (history : List Event) → TellsFeeds history (ledger_of rules history)
-tells_feeds rules history = record { fed = fed_from history (fresh rules); closed = closed_from history (fresh rules) }
+tells_feeds rules history = record { fed = fed_from history (fresh_ledger rules); closed = closed_from history (fresh_ledger rules) }
 
 -- ---- the checkpoint
 
@@ -118,14 +118,14 @@ stays (Switch ∷ history) l h = absurd (cc)
 stays (Abandon ∷ history) l h = behind l (ledger_after l Abandon) (fold ledger_after (ledger_after l Abandon) history) (drop_rests l.building l) (stays history (ledger_after l Abandon) h)
 
 pub checkpoint_begins : (rules : RuleSet) (history : List Event) → moves_checkpoint history ≡ false → ((ledger_of rules history).position ≡ 0) × ((ledger_of rules history).op ≡ 0)
-checkpoint_begins rules history h = let rest = stays history (fresh rules) h in (rest.position, rest.op)
+checkpoint_begins rules history h = let rest = stays history (fresh_ledger rules) h in (rest.position, rest.op)
 
 pub checkpoint_reached : (rules : RuleSet) (front back : List Event) → moves_checkpoint back ≡ false
     → ((ledger_of rules (front ++ Commit ∷ back)).position ≡ (ledger_of rules front).reach.position)
     × ((ledger_of rules (front ++ Commit ∷ back)).op ≡ max (ledger_of rules front).op (ledger_of rules front).reach.op)
 checkpoint_reached rules front back h =
     let l : Ledger = ledger_of rules front in
-    let all = fold-append ledger_after (fresh rules) front (Commit ∷ back) in
+    let all = fold-append ledger_after (fresh_ledger rules) front (Commit ∷ back) in
     let rest = stays back (ledger_after l Commit) h in
     (ap (λ (n : Ledger). n.position) all ∙ rest.position, ap (λ (n : Ledger). n.op) all ∙ rest.op)
 
@@ -138,9 +138,9 @@ pub switch_reached : (rules : RuleSet) (front back : List Event) → IsLegal rul
     × ((ledger_of rules (front ++ Switch ∷ back)).op ≡ (ledger_of rules front).last + 1)
 switch_reached rules front back legal h =
     let l : Ledger = ledger_of rules front in
-    let all = fold-append ledger_after (fresh rules) front (Switch ∷ back) in
+    let all = fold-append ledger_after (fresh_ledger rules) front (Switch ∷ back) in
     let rest = stays back (ledger_after l Switch) h in
-    let here = at l.building (legal_behind front (Switch ∷ back) (fresh rules) legal).0.0 in
+    let here = at l.building (legal_behind front (Switch ∷ back) (fresh_ledger rules) legal).0.0 in
     (ap (λ (n : Ledger). n.position) all ∙ rest.position ∙ here.0, ap (λ (n : Ledger). n.op) all ∙ rest.op ∙ here.1)
   where
     at : (o : Option Coming) → IsSome o → ((switch_to o (ledger_of rules front)).position ≡ (ledger_of rules front).reach.position) × ((switch_to o (ledger_of rules front)).op ≡ (ledger_of rules front).last + 1)

@@ -11,18 +11,18 @@ use Rattle.ps_data.specs.declared.columns.Column.{Column}
 use Rattle.ps_bucket_log.specs.declared.ops.Key.{Key as EntryKey}
 use Rattle.ps_bucket_log.specs.declared.ops.Op.{Op}
 use Rattle.ps_bucket_log.specs.Ops.{id_of}
-use Rattle.ps_bucket_log.specs.Buckets.{bucket_of, fresh}
+use Rattle.ps_bucket_log.specs.Buckets.{bucket_of, fresh_bucket}
 use Rattle.ps_rows.specs.Source.{Key, key_cmp, Version, Source}
 use Rattle.ps_rows.specs.Keys.{keys_total, keys_exact, find-after_row}
 use Rattle.ps_definitions.specs.declared.definitions.Definition.{Definition}
-use Rattle.ps_definitions.specs.RuleSets.{rises_past, numbers_of}
+use Rattle.ps_definitions.specs.RuleSets.{rises_past, all_query_numbers}
 use Rattle.ps_bucket_eval.specs.declared.placed.Placed.{Placed}
 use Rattle.ps_queries.specs.Vectors.{SourceRow}
 use Rattle.ps_bucket_eval.specs.Entries.{entries_of}
 use Rattle.ps_bucket_eval.specs.Laws.{EntriesRise}
-use Rattle.ps_store.specs.Originals.{put, leaving, written, Timed, key_of, after, row_of, entries_at, columns_of, standing_entries, change_ops, in_bucket}
+use Rattle.ps_store.specs.Originals.{put, leaving, written, Timed, key_of, after, keyed_row, entries_at, columns_of, standing_entries, change_ops, in_bucket}
 use Rattle.ps_store.specs.Standing.{Holding, Standing, HoldsStanding}
-use Rattle.ps_store.specs.Steps.{Step, lane_ops, source_after, held_of, in_lane}
+use Rattle.ps_store.specs.Steps.{Step, lane_ops, source_after, holding_of, in_lane}
 use Rattle.ps_store.specs.Laws.{HaveNumbers}
 use Rattle.ps_data.proofs.Members.{Has, any_has, has_any, has_contains, contains_has}
 use Rattle.ps_store.proofs.Keys.{same_row}
@@ -36,7 +36,7 @@ use Rattle.ps_store.proofs.Stepping.{step_ops, StepsFrom, lane_marked, in_marked
 -- an entry of a row that stands in the source
 pub record Stands (definitions : List Definition) (source : Source) (key : Key) (version : Version) (x : Placed) : Type 0 where
   pub there : find key_cmp key source ≡ Some version
-  pub has : Has (entries_of definitions (row_of key version.columns)) x
+  pub has : Has (entries_of definitions (keyed_row key version.columns)) x
 
 -- an entry is before another, by moments and then by numbers
 pub record IsBefore (a b : Version) (m n : ℕ) : Type 0 where
@@ -112,41 +112,41 @@ version_of position index row = option_map (λ columns. record { columns = colum
 
 -- an entry of a row is one of some columns
 entry_columns : (definitions : List Definition) (k : Key) (row : Option (List Column)) (x : Placed) → Has (entries_at definitions k row) x
-    → (columns : List Column) × (row ≡ Some columns) × Has (entries_of definitions (row_of k columns)) x
+    → (columns : List Column) × (row ≡ Some columns) × Has (entries_of definitions (keyed_row k columns)) x
 entry_columns definitions k None x h = absurd h
 entry_columns definitions k (Some columns) x h = (columns, refl, h)
 
 -- the version of a changed row has the moment of the change, and its entries are those of the change's row
 changed : (definitions : List Definition) (position index : ℕ) (row : Option (List Column)) (key k : Key) (version : Version) → key ≡ k → version_of position index row ≡ Some version
-    → (version.position ≡ position) × (version.index ≡ index) × ((x : Placed) → Has (entries_of definitions (row_of key version.columns)) x → Has (entries_at definitions k row) x)
+    → (version.position ≡ position) × (version.index ≡ index) × ((x : Placed) → Has (entries_of definitions (keyed_row key version.columns)) x → Has (entries_at definitions k row) x)
 unfolding version_of
 changed definitions position index None key k version same e = absurd (let wrong : None ≡ Some version = e in cc)
 changed definitions position index (Some columns) key k version same e =
     let is : record { columns = columns; position = position; index = index } ≡ version = same_Some _ version e in (
       ap (λ (v : Version). v.position) (sym is),
       ap (λ (v : Version). v.index) (sym is),
-      λ x h. subst (λ c. Has (entries_of definitions (row_of c columns)) x) same (subst (λ (v : Version). Has (entries_of definitions (row_of key v.columns)) x) (sym is) h),
+      λ x h. subst (λ c. Has (entries_of definitions (keyed_row c columns)) x) same (subst (λ (v : Version). Has (entries_of definitions (keyed_row key v.columns)) x) (sym is) h),
     )
 
-module _ (definitions : List Definition) (order : (source : SourceRow) → EntriesRise (entries_of definitions source)) (numbers : rises_past 0 (numbers_of definitions) ≡ true) (have : HaveNumbers definitions) where
+module _ (definitions : List Definition) (order : (source : SourceRow) → EntriesRise (entries_of definitions source)) (numbers : rises_past 0 (all_query_numbers definitions) ≡ true) (have : HaveNumbers definitions) where
   entries_rise : (k : Key) (row : Option (List Column)) → Rise (entries_at definitions k row)
   entries_rise k None = tt
-  entries_rise k (Some columns) = rise_of (entries_of definitions (row_of k columns)) (order (row_of k columns))
+  entries_rise k (Some columns) = rise_of (entries_of definitions (keyed_row k columns)) (order (keyed_row k columns))
 
   same_number : (a b : SourceRow) (x y : Placed) → Has (entries_of definitions a) x → Has (entries_of definitions b) y → x.key ≡ y.key → x.number ≡ y.number
   same_number a b x y i j e = (same_row definitions numbers have a b x y i j e).number
 
   entries_apart : (k : Key) (row : Option (List Column)) → AreApart (entries_at definitions k row)
   entries_apart k None = tt
-  entries_apart k (Some columns) = apart_of (entries_of definitions (row_of k columns)) (entries_rise k (Some columns)) (λ x y i j e. same_number (row_of k columns) (row_of k columns) x y i j e)
+  entries_apart k (Some columns) = apart_of (entries_of definitions (keyed_row k columns)) (entries_rise k (Some columns)) (λ x y i j e. same_number (keyed_row k columns) (keyed_row k columns) x y i j e)
 
   -- an entry of a row is not at an entry of another row
-  none_of_other : (key k : Key) (columns : List Column) (row : Option (List Column)) (x : Placed) → (key ≡ k → ⊥) → Has (entries_of definitions (row_of key columns)) x
+  none_of_other : (key k : Key) (columns : List Column) (row : Option (List Column)) (x : Placed) → (key ≡ k → ⊥) → Has (entries_of definitions (keyed_row key columns)) x
       → list_any (is_at x.bucket x.key) (entries_at definitions k row) ≡ false
   none_of_other key k columns row x other h = false_from_ne_true (list_any (is_at x.bucket x.key) (entries_at definitions k row)) (λ e.
       let a = any_has (is_at x.bucket x.key) (entries_at definitions k row) e in
       let c = entry_columns definitions k row a.0 a.1 in
-      let same = same_row definitions numbers have (row_of key columns) (row_of k c.0) x a.0 h c.2 (at_is x.bucket x.key a.0 a.2).1 in
+      let same = same_row definitions numbers have (keyed_row key columns) (keyed_row k c.0) x a.0 h c.2 (at_is x.bucket x.key a.0 a.2).1 in
       other (λ i. (same.table i, same.id i)))
 
   module _ (source : Source) (next position index : ℕ) (held : Holding) (holds : Holds definitions source next position index held) (t : Timed) (reached : IsReached position index t.position t.index) where
@@ -259,7 +259,7 @@ module _ (definitions : List Definition) (order : (source : SourceRow) → Entri
             let r = holds.only bucket k op i in
             let other : r.0 ≡ key → ⊥ = λ same.
             let there : find key_cmp key source ≡ Some r.1 = subst (λ q. find key_cmp q source ≡ Some r.1) same r.3.there in
-            let has : Has old r.2 = subst (λ f. Has (entries_at definitions key (columns_of f)) r.2) (sym there) (subst (λ q. Has (entries_of definitions (row_of q r.1.columns)) r.2) same r.3.has) in
+            let has : Has old r.2 = subst (λ f. Has (entries_at definitions key (columns_of f)) r.2) (sym there) (subst (λ q. Has (entries_of definitions (keyed_row q r.1.columns)) r.2) same r.3.has) in
             let at : is_at bucket k r.2 ≡ true = subst (λ b. is_at b k r.2 ≡ true) r.4 (subst (λ c. is_at r.2.bucket c r.2 ≡ true) r.5 (at_itself r.2)) in
             let wrong : true ≡ false = sym (has_any (is_at bucket k) old r.2 has at) ∙ e in cc in
             (r.0, r.1, r.2, old_stands r.0 r.1 r.2 other r.3, r.4, r.5)
@@ -342,7 +342,7 @@ before_of a b m n h = elim (or_cases (nat_lt a.position b.position) (a.position 
 
 module _ (definitions : List Definition) (source : Source) (next position index : ℕ) (held : Holding) (holds : Holds definitions source next position index held) where
   stands_of : (s : Standing definitions source) → Stands definitions source s.key s.version s.entry
-  stands_of s = record { there = s.there; has = contains_has (entries_of definitions (row_of s.key s.version.columns)) s.entry s.is_entry }
+  stands_of s = record { there = s.there; has = contains_has (entries_of definitions (keyed_row s.key s.version.columns)) s.entry s.is_entry }
 
   -- what is held of an entry is its PUT
   is_put : (s : Standing definitions source) (x : Op) → held s.entry.bucket s.entry.key ≡ Some x → (m : ℕ) × (held s.entry.bucket s.entry.key ≡ Some (put m s.entry).op) × (x ≡ (put m s.entry).op)
@@ -353,7 +353,7 @@ module _ (definitions : List Definition) (source : Source) (next position index 
     each = λ s. let r = holds.each s.key s.version s.entry (stands_of s) in ((put r.0 s.entry).op, r.1, (r.0, refl));
     only = λ bucket key op h.
         let r = holds.only bucket key op h in
-        let s : Standing definitions source = record { key = r.0; version = r.1; there = r.3.there; entry = r.2; is_entry = has_contains (entries_of definitions (row_of r.0 r.1.columns)) r.2 r.3.has } in
+        let s : Standing definitions source = record { key = r.0; version = r.1; there = r.3.there; entry = r.2; is_entry = has_contains (entries_of definitions (keyed_row r.0 r.1.columns)) r.2 r.3.has } in
         let there : held r.2.bucket r.2.key ≡ Some op = ap (λ b. held b r.2.key) r.4 ∙ ap (held bucket) r.5 ∙ h in
         let p = is_put s op there in
         (s, r.4, r.5, (p.0, p.2));
@@ -367,7 +367,7 @@ module _ (definitions : List Definition) (source : Source) (next position index 
   }
 
 -- readers that took the operations of all steps hold what stands
-pub steps_standing : (definitions : List Definition) → ((source : SourceRow) → EntriesRise (entries_of definitions source)) → rises_past 0 (numbers_of definitions) ≡ true → HaveNumbers definitions
+pub steps_standing : (definitions : List Definition) → ((source : SourceRow) → EntriesRise (entries_of definitions source)) → rises_past 0 (all_query_numbers definitions) ≡ true → HaveNumbers definitions
     → (ss : List Step) → StepsFrom definitions [] 0 0 0 ss → (held : Holding)
     → ((bucket : List ℕ) (key : EntryKey) → held_over bucket key None (step_ops definitions [] ss) ≡ held bucket key) → HoldsStanding definitions (source_after [] ss) held
 steps_standing definitions order numbers have ss rise held same =
@@ -377,7 +377,7 @@ steps_standing definitions order numbers have ss rise held same =
 
 -- what readers hold of a lane is what the operations of its steps leave
 pub lane_held : (mark : List ℕ) (definitions : List Definition) (ss : List Step) (bucket : List ℕ) (key : EntryKey)
-    → held_over bucket key None (step_ops definitions [] ss) ≡ in_lane mark (held_of (lane_ops mark definitions [] ss)) bucket key
+    → held_over bucket key None (step_ops definitions [] ss) ≡ in_lane mark (holding_of (lane_ops mark definitions [] ss)) bucket key
 lane_held mark definitions ss bucket key =
     let ops = ap (in_bucket (mark ++ bucket)) (lane_marked mark definitions [] ss) ∙ in_marked mark bucket (step_ops definitions [] ss) in
-    sym (ap (λ os. (bucket_of os).held key) ops ∙ reader_holds bucket key fresh (step_ops definitions [] ss))
+    sym (ap (λ os. (bucket_of os).held key) ops ∙ reader_holds bucket key fresh_bucket (step_ops definitions [] ss))

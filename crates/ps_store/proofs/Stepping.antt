@@ -9,7 +9,7 @@ use Rattle.std.proofs.lemmas.Slice.Eq.{bytes_eq-Decides}
 use Rattle.ps_rows.specs.Source.{Source}
 use Rattle.ps_definitions.specs.declared.definitions.Definition.{Definition}
 use Rattle.ps_store.specs.Originals.{Entered, Timed, after, change_ops, ops_from, in_bucket}
-use Rattle.ps_store.specs.Steps.{Step, marked, lane_ops, source_after, IsPast, IsFollowed, StepsRise, changes_of}
+use Rattle.ps_store.specs.Steps.{Step, marked, lane_ops, source_after, IsPast, IsFollowed, StepsRise, step_changes}
 use Rattle.ps_store.proofs.Moments.{after_all, IsReached, MomentsRise}
 
 -- ---- without a mark
@@ -138,6 +138,6 @@ marked_none (e ∷ es) = ap (λ rest. e ∷ rest) (marked_none es)
 pub lane_unmarked : (definitions : List Definition) (source : Source) (ss : List Step) → lane_ops [] definitions source ss ≡ step_ops definitions source ss
 lane_unmarked definitions source ss = lane_marked [] definitions source ss ∙ marked_none (step_ops definitions source ss)
 
-pub source_changes : (source : Source) (ss : List Step) → source_after source ss ≡ after_all source (changes_of ss)
+pub source_changes : (source : Source) (ss : List Step) → source_after source ss ≡ after_all source (step_changes ss)
 source_changes source [] = refl
 source_changes source (s ∷ ss) = source_changes (after source s.timed) ss

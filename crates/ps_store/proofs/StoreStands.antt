@@ -14,7 +14,7 @@ use Rattle.ps_rows.specs.Source.{Key, key_cmp, Version}
 use Rattle.ps_definitions.specs.RuleSets.{RuleSet}
 use Rattle.ps_params.specs.Indexes.{Index}
 use Rattle.ps_params.specs.Notes.{Note, SameFrom}
-use Rattle.ps_write_cp.specs.Kept.{Kept, heads_at}
+use Rattle.ps_write_cp.specs.Kept.{KeptNumbers, heads_at}
 use Rattle.ps_write_cp.specs.Numbers.{Made as MadeNumber, heads_of}
 use Rattle.ps_store.specs.declared.fixed.Fixed.{Fixed}
 use Rattle.ps_store.specs.declared.fixed.Limits.{Limits}
@@ -24,7 +24,7 @@ use Rattle.ps_store.specs.declared.reach.End.{End}
 use Rattle.ps_store.specs.declared.stores.Store.{Store}
 use Rattle.ps_store.specs.declared.tails.Tail.{Tail}
 use Rattle.ps_store.specs.declared.totals.Totals.{Totals}
-use Rattle.ps_store.specs.Ledgers.{Ledger, fresh, unwritten, timed_of, end_of, write_next, head_of}
+use Rattle.ps_store.specs.Ledgers.{Ledger, fresh_ledger, unwritten, timed_of, end_of, write_next, head_of}
 use Rattle.ps_store.specs.Originals.{Entered, Timed, timed, timed_from, standing_entries, in_bucket}
 use Rattle.ps_store.specs.Generations.{Coming}
 use Rattle.ps_store.specs.StepLaws.{transactions_upto}
@@ -33,9 +33,9 @@ use Rattle.ps_store.specs.Rows.{row_at}
 use Rattle.ps_store.specs.Runs.{Run, run_from, ops_from, lasts_from}
 use Rattle.ps_store.specs.Limits.{greatest}
 use Rattle.ps_store.specs.StoreLogs.{log_at, has_ops, first_ops, Continue}
-use Rattle.ps_store.specs.Stores.{Stands, IndexStands, IsKept, IsSame, IsFilled, NumbersStand}
-use Rattle.ps_store.specs.Tails.{repeated, positions_of, timed_positions, IsSettled, Tied, Ascend, EndsRise, ids, AreRowsOf, reach_after, rows_after, notes_after}
-use Rattle.ps_store.specs.Totals.{names_of, ops_of as counted_ops, totals_of, with_changes}
+use Rattle.ps_store.specs.Stores.{StandsForLedger, IndexStands, IsKept, IsSame, IsFilled, NumbersStand}
+use Rattle.ps_store.specs.Tails.{repeated, end_positions, timed_positions, IsSettled, Tied, Ascend, EndsRise, ids, AreRowsOf, reach_after, rows_after, notes_after}
+use Rattle.ps_store.specs.Totals.{buckets_entered, entered_ops as counted_ops, totals_of, with_changes}
 use Rattle.ps_store.specs.StoreGenerations.{by_of, log_in, GenerationsStand, HasGenerations, IsCopyOf}
 use Rattle.ps_store.proofs.Alike.{generations_alike}
 use Rattle.ps_store.proofs.Compacting.{next_entered}
@@ -64,23 +64,23 @@ index_same old new l rules last forgotten notes h = record {
   ascend = subst (λ (n : ℕ). Ascend n (unwritten l) (head_of l.fed)) (sym last) h.ascend;
 }
 
-pub numbers_alike : (top top' : ℕ) (kept kept' : Kept) (made made' : List MadeNumber) (head head' : ℕ) → top' ≡ top → kept' ≡ kept → made' ≡ made → head' ≡ head
+pub numbers_alike : (top top' : ℕ) (kept kept' : KeptNumbers) (made made' : List MadeNumber) (head head' : ℕ) → top' ≡ top → kept' ≡ kept → made' ≡ made → head' ≡ head
     → NumbersStand top kept made head → NumbersStand top' kept' made' head'
 numbers_alike top top' kept kept' made made' head head' same_top same_kept same_made same_head h = record {
-  made_are = λ user client. ap (λ (k : Kept). heads_at k user client) same_kept ∙ h.made_are user client ∙ ap (λ (m : List MadeNumber). heads_of user client m) (sym same_made);
-  top_is = ap (λ (k : Kept). k.top) same_kept ∙ h.top_is ∙ sym same_top;
-  behind = let kept_head : kept'.head ≡ kept.head = ap (λ (k : Kept). k.head) same_kept in omega (arith, kept_head, h.behind, same_head);
+  made_are = λ user client. ap (λ (k : KeptNumbers). heads_at k user client) same_kept ∙ h.made_are user client ∙ ap (λ (m : List MadeNumber). heads_of user client m) (sym same_made);
+  top_is = ap (λ (k : KeptNumbers). k.top) same_kept ∙ h.top_is ∙ sym same_top;
+  behind = let kept_head : kept'.head ≡ kept.head = ap (λ (k : KeptNumbers). k.head) same_kept in omega (arith, kept_head, h.behind, same_head);
 }
 
 -- the head rises
-pub numbers_later : (top : ℕ) (kept : Kept) (made : List MadeNumber) (head later : ℕ) → head ≤ later → NumbersStand top kept made head → NumbersStand top kept made later
+pub numbers_later : (top : ℕ) (kept : KeptNumbers) (made : List MadeNumber) (head later : ℕ) → head ≤ later → NumbersStand top kept made head → NumbersStand top kept made later
 numbers_later top kept made head later up h = record { made_are = h.made_are; top_is = h.top_is; behind = omega (arith, h.behind, up) }
 
 -- the rules in force stay
 by_same : (old new : Store) → IsSame old new → by_of new ≡ by_of old
 by_same old new same = λ i. unwrap_or (same.generations.by i) (same.fixed i)
 
-pub stands_same : (old new : Store) (l : Ledger) → IsSame old new → Stands old l → Stands new l
+pub stands_same : (old new : Store) (l : Ledger) → IsSame old new → StandsForLedger old l → StandsForLedger new l
 stands_same old new l same h = record {
   rules = h.rules ∙ ap (λ (f : Fixed). f.rules) (sym (by_same old new same));
   by_limits = ap (λ (f : Fixed). f.limits) (by_same old new same) ∙ h.by_limits ∙ ap (λ (f : Fixed). f.limits) (sym same.fixed);
@@ -106,7 +106,7 @@ stands_same old new l same h = record {
 
 -- ---- nothing is fed
 
-pub kept_fresh : (rules : RuleSet) (limits : Limits) → IsKept limits (fresh rules)
+pub kept_fresh : (rules : RuleSet) (limits : Limits) → IsKept limits (fresh_ledger rules)
 kept_fresh rules limits = record {
   within = omega arith;
   tied = record { positions = refl; settled = refl };
@@ -135,7 +135,7 @@ totals_written ts l h =
       transactions = length (sym (next_rests ts l).fed i);
       changes = sym (next_written ts l) i;
       operations = (sym (length-append l.entered (ops_from l ts)) ∙ ap length entered) i;
-      buckets = (sym (names_more (ops_from l ts) l.entered l.log h) ∙ ap (λ (es : List Entered). length (names_of es)) entered) i;
+      buckets = (sym (names_more (ops_from l ts) l.entered l.log h) ∙ ap (λ (es : List Entered). length (buckets_entered es)) entered) i;
       sum = record { 0 = (sym (sum_append l.entered (ops_from l ts)) ∙ ap (λ (es : List Entered). sum_of (counted_ops es)) entered) i };
     }
 
@@ -169,7 +169,7 @@ take_joined zero n xs = let e : 0 + n ≡ n = omega arith in ap (λ k. take k xs
 take_joined (suc w) n [] = take_nil (suc w + n) [] refl ∙ sym (take_nil n [] refl)
 take_joined (suc w) n (x ∷ xs) = let e : suc w + n ≡ suc (w + n) = omega arith in ap (λ k. take k (x ∷ xs)) e ∙ ap (λ ys. x ∷ ys) (take_joined w n xs)
 
-module _ (old : Store) (l : Ledger) (h : Stands old l) (well : IsWell l) (usual : old.fixed.limits.entries ≤ 1000) (limit : ℕ) where
+module _ (old : Store) (l : Ledger) (h : StandsForLedger old l) (well : IsWell l) (usual : old.fixed.limits.entries ≤ 1000) (limit : ℕ) where
   abbrev run : Run
   run = run_from old.fixed.limits l 0 (take limit (unwritten l))
 
@@ -398,7 +398,7 @@ module _ (old : Store) (l : Ledger) (h : Stands old l) (well : IsWell l) (usual 
             } in
             subst (HasGenerations old.fixed.limits new.generations) as_after at_head
 
-        stands_after : IsCopyOf mid.generations.building (take (length plan.made.items) old.tail.changes.items) copies → Stands new after
+        stands_after : IsCopyOf mid.generations.building (take (length plan.made.items) old.tail.changes.items) copies → StandsForLedger new after
         stands_after copied = record {
           rules = rules_are ∙ h.rules ∙ sym (ap (λ (f : Fixed). f.rules) by_is);
           by_limits = ap (λ (f : Fixed). f.limits) by_is ∙ h.by_limits ∙ ap (λ (f : Fixed). f.limits) (sym fixed_is);
@@ -437,7 +437,7 @@ module _ (old : Store) (l : Ledger) (h : Stands old l) (well : IsWell l) (usual 
             by_is = (λ i. unwrap_or (filled.generations.by i) (filled.fixed i)) ∙ by_same old mid same
 
         -- the store stands for what is written
-        pub stands_written : IsCopyOf mid.generations.building (take (length plan.made.items) old.tail.changes.items) copies → Stands new (fold write_next l (take run.count (unwritten l)))
+        pub stands_written : IsCopyOf mid.generations.building (take (length plan.made.items) old.tail.changes.items) copies → StandsForLedger new (fold write_next l (take run.count (unwritten l)))
         stands_written copied = stands_after copied
 
         pub last_of_run : new.last.0 ≡ run.ledger.last
@@ -482,9 +482,9 @@ repeated_append : (n p : ℕ) (xs ys : List ℕ) → repeated n p (xs ++ ys) ≡
 repeated_append zero p xs ys = refl
 repeated_append (suc n) p xs ys = ap (λ zs. p ∷ zs) (repeated_append n p xs ys)
 
-positions_append : (es : List End) (e : End) → positions_of (es ++ e ∷ []) ≡ positions_of es ++ repeated e.changes e.position.0 []
+positions_append : (es : List End) (e : End) → end_positions (es ++ e ∷ []) ≡ end_positions es ++ repeated e.changes e.position.0 []
 positions_append [] e = refl
-positions_append (x ∷ es) e = ap (repeated x.changes x.position.0) (positions_append es e) ∙ repeated_append x.changes x.position.0 (positions_of es) (repeated e.changes e.position.0 [])
+positions_append (x ∷ es) e = ap (repeated x.changes x.position.0) (positions_append es e) ∙ repeated_append x.changes x.position.0 (end_positions es) (repeated e.changes e.position.0 [])
 
 positions_at : (position index : ℕ) (changes : List Change) → timed_positions (timed_from position index changes) ≡ repeated (length changes) position []
 positions_at position index [] = refl
@@ -498,20 +498,20 @@ length_repeated : (c p : ℕ) (rest : List ℕ) → length (repeated c p rest) �
 length_repeated zero p rest = omega arith
 length_repeated (suc c) p rest = omega (arith, length_repeated c p rest)
 
-over_within : (over : ℕ) (es : List End) → IsSettled over es → over ≤ length (positions_of es)
+over_within : (over : ℕ) (es : List End) → IsSettled over es → over ≤ length (end_positions es)
 over_within over [] h = omega (arith, h)
-over_within over (e ∷ es) h = omega (arith, h, length_repeated e.changes e.position.0 (positions_of es))
+over_within over (e ∷ es) h = omega (arith, h, length_repeated e.changes e.position.0 (end_positions es))
 
 pub tied_fed : (us : List Timed) (r : Reached) (t : Transaction) (last : ℕ) → Tied us r → Tied (us ++ timed_of t) (settled last (record r { left = r.left ++ end_of t ∷ [] }))
 tied_fed us r t last h =
-    let within : r.over ≤ length (positions_of r.left) = over_within r.over r.left h.settled in
+    let within : r.over ≤ length (end_positions r.left) = over_within r.over r.left h.settled in
     tied_settled (us ++ timed_of t) (record r { left = r.left ++ end_of t ∷ [] }) last
     (map_append (λ (u : Timed). u.position) us (timed_of t)
     ∙ ap (λ ps. ps ++ timed_positions (timed_of t)) h.positions
-    ∙ ap (λ ps. drop r.over (positions_of r.left) ++ ps) (positions_at t.position.0 0 t.changes)
-    ∙ sym (drop_append r.over (positions_of r.left) (repeated (length t.changes) t.position.0 []) within)
+    ∙ ap (λ ps. drop r.over (end_positions r.left) ++ ps) (positions_at t.position.0 0 t.changes)
+    ∙ sym (drop_append r.over (end_positions r.left) (repeated (length t.changes) t.position.0 []) within)
     ∙ ap (drop r.over) (sym (positions_append r.left (end_of t))))
-    (omega (arith, within, ap length (positions_append r.left (end_of t)), length-append (positions_of r.left) (repeated (length t.changes) t.position.0 [])))
+    (omega (arith, within, ap length (positions_append r.left (end_of t)), length-append (end_positions r.left) (repeated (length t.changes) t.position.0 [])))
 
 length_from : (position index : ℕ) (changes : List Change) → length (timed_from position index changes) ≡ length changes
 length_from position index [] = refl

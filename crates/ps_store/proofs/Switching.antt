@@ -21,9 +21,9 @@ use Rattle.ps_store.specs.Ledgers.{Ledger, head_of, unwritten, switch_to, ledger
 use Rattle.ps_store.specs.Limits.{greatest}
 use Rattle.ps_store.specs.Originals.{Timed, timed, standing_entries}
 use Rattle.ps_store.specs.Reach.{Reached, reached}
-use Rattle.ps_store.specs.Steps.{changes_of}
+use Rattle.ps_store.specs.Steps.{step_changes}
 use Rattle.ps_store.specs.StoreGenerations.{HasSwitched, HavePlaces, IndexStandsFor, IsBuilding, IsNoted}
-use Rattle.ps_store.specs.Stores.{IsKept, Stands, StoreStandsFor}
+use Rattle.ps_store.specs.Stores.{IsKept, StandsForLedger, StoreStandsFor}
 use Rattle.ps_store.specs.Tails.{Ascend}
 use Rattle.ps_store.proofs.Abandoning.{IsOf, is_built}
 use Rattle.ps_store.proofs.Coming.{stands_event}
@@ -83,18 +83,18 @@ done_low l well none =
     (upto_low l.reach.position (timed l.fed))
 
 -- its changes leave what the written ones do
-same_source : (l : Ledger) (coming : Coming) → IsComing l coming → coming.queue ≡ [] → after_all [] (done_of l) ≡ after_all [] (changes_of coming.lane.steps)
+same_source : (l : Ledger) (coming : Coming) → IsComing l coming → coming.queue ≡ [] → after_all [] (done_of l) ≡ after_all [] (step_changes coming.lane.steps)
 same_source l coming lane none =
     sym lane.whole ∙ ap (after_all coming.lane.source) none ∙ lane.source ∙ source_changes [] coming.lane.steps
 
 index_switched : (old new : Index) (l : Ledger) (coming : Coming) → IsWell l → IsComing l coming → coming.queue ≡ [] → l.reach.over ≡ 0
     → new.rules ≡ old.rules → new.last ≡ old.last → new.forgotten ≡ max old.forgotten l.reach.position → SameFrom new.forgotten old.notes new.notes
-    → IndexStandsFor old coming.lane.rules l.position (changes_of coming.lane.steps) (coming.queue ++ unwritten l) (head_of l.fed)
+    → IndexStandsFor old coming.lane.rules l.position (step_changes coming.lane.steps) (coming.queue ++ unwritten l) (head_of l.fed)
     → IndexStandsFor new coming.lane.rules l.reach.position (done_of l) (unwritten l) (head_of l.fed)
 index_switched old new l coming well lane none over rules last forgotten notes h =
     let p : ℕ = l.reach.position in
     let floor : new.forgotten ≤ p = omega (arith, forgotten, h.forgotten, well.behind) in
-    let alike = noted_alike coming.lane.rules.definitions p (done_of l) (changes_of coming.lane.steps) (done_low l well over) (lane.low p (done_low l well over)).0 (same_source l coming lane none) in
+    let alike = noted_alike coming.lane.rules.definitions p (done_of l) (step_changes coming.lane.steps) (done_low l well over) (lane.low p (done_low l well over)).0 (same_source l coming lane none) in
     record {
       rules = rules ∙ h.rules;
       forgotten = floor;
@@ -152,7 +152,7 @@ module _ (fixed : Fixed) (old : Store) (history : List Event) (h : StoreStandsFo
       op_is : checkpoint.op.0 ≡ l.last + 1
       op_is = ap (λ (o : OpId). o.0) op ∙ id_is
 
-      stands_switched : Stands store m
+      stands_switched : StandsForLedger store m
       stands_switched = record {
         rules = sym b.stands.rules ∙ ap (λ (o : Option Fixed). (unwrap_or o old.fixed).rules) (sym s.by);
         by_limits = ap (λ (o : Option Fixed). (unwrap_or o old.fixed).limits) s.by ∙ b.limits_are;
@@ -192,5 +192,5 @@ module _ (fixed : Fixed) (old : Store) (history : List Event) (h : StoreStandsFo
         (let same : old.fixed.limits.ops ≡ fixed.limits.ops = ap (λ (f : Fixed). f.limits.ops) h.fixed_is in omega (arith, op_is, room, same)),
         stands_event fixed old store history Switch h refl
             (subst IsSome (sym b.is) refl, ap queue_in b.is ∙ queue_is, over_is, omega (arith, room, subst (λ (f : Fixed). f.limits.ops ≤ greatest) (sym h.fixed_is) h.limits.ops))
-            (subst (λ (o : Option Coming). Stands store (switch_to o l)) (sym b.is) stands_switched),
+            (subst (λ (o : Option Coming). StandsForLedger store (switch_to o l)) (sym b.is) stands_switched),
       )

@@ -11,7 +11,7 @@ use Rattle.std.proofs.lemmas.Cmp.{same_from_slice_cmp, nat_list_eq_equiv}
 use Rattle.std.proofs.lemmas.List.Folds.{list_any_more}
 use Rattle.ps_bucket_eval.specs.declared.placed.Placed.{Placed}
 use Rattle.ps_store.specs.Originals.{is_placed, stays}
-use Rattle.ps_store.specs.Places.{Place, pair_cmp, place_cmp, place_of, HasPlaces}
+use Rattle.ps_store.specs.Places.{Place, pair_cmp, place_cmp, entry_place, HasPlaces}
 
 tied_texts : (a b : List ℕ) → is_eq (slice_cmp nat_cmp a b) ≡ bytes_eq a b
 tied_texts a b = same_from_slice_cmp nat_cmp is_eq bytes_eq refl (λ _ _. refl) (λ _ _. refl) (λ x y xs ys o h. grind (arith, nat_tests)) a b (slice_cmp nat_cmp a b) refl
@@ -29,7 +29,7 @@ regrouped true true c d = refl
 regrouped true false c d = refl
 regrouped false b c d = refl
 
-place_tied : (x entry : Placed) → is_eq (place_cmp (place_of x) (place_of entry)) ≡ is_placed entry.bucket entry x
+place_tied : (x entry : Placed) → is_eq (place_cmp (entry_place x) (entry_place entry)) ≡ is_placed entry.bucket entry x
 place_tied x entry =
     then_tied (pair_cmp (x.bucket, x.key.kind) (entry.bucket, entry.key.kind)) (pair_cmp (x.key.id, x.key.subkey) (entry.key.id, entry.key.subkey))
     ∙ ap (λ b. b && is_eq (pair_cmp (x.key.id, x.key.subkey) (entry.key.id, entry.key.subkey))) (pair_tied x.bucket x.key.kind entry.bucket entry.key.kind)
@@ -47,12 +47,12 @@ or_turned false false = refl
 
 module _ (xs : List Placed) (i : ℕ) (x : Placed) (within : i < length xs) (is : x ≡ get_or xs i x) where
   -- one more place is put in
-  pub places_more : (old new : BTreeSet Place) → ((q : Place) → contains place_cmp new q ≡ cond (is_eq (place_cmp (place_of x) q)) true (contains place_cmp old q))
+  pub places_more : (old new : BTreeSet Place) → ((q : Place) → contains place_cmp new q ≡ cond (is_eq (place_cmp (entry_place x) q)) true (contains place_cmp old q))
       → HasPlaces old (take i xs) → HasPlaces new (take (i + 1) xs)
   places_more old new added h = λ entry.
-      added (place_of entry)
-      ∙ ap (λ b. cond b true (contains place_cmp old (place_of entry))) (place_tied x entry)
-      ∙ or_turned (is_placed entry.bucket entry x) (contains place_cmp old (place_of entry))
+      added (entry_place entry)
+      ∙ ap (λ b. cond b true (contains place_cmp old (entry_place entry))) (place_tied x entry)
+      ∙ or_turned (is_placed entry.bucket entry x) (contains place_cmp old (entry_place entry))
       ∙ ap (λ b. b || is_placed entry.bucket entry x) (h entry)
       ∙ ap (λ y. stays (take i xs) entry || is_placed entry.bucket entry y) is
       ∙ sym (list_any_more (is_placed entry.bucket entry) xs i x within)

@@ -18,10 +18,10 @@ use Rattle.ps_definitions.specs.RuleSets.{RuleSet}
 use Rattle.ps_queries.specs.Vectors.{SourceRow}
 use Rattle.ps_granted.specs.Sources.{rows_in}
 use Rattle.ps_definitions.specs.Tables.{is_read}
-use Rattle.ps_params.specs.Indexes.{StandsAt}
+use Rattle.ps_params.specs.Indexes.{IndexStandsAt}
 use Rattle.ps_params.specs.Laws.{note_of_change, notes_of_transaction, notes_of, notes_read, NotesReadAreTheSource}
 use Rattle.ps_params.specs.Names.{definition_names, bucket_names, AreTold as ArePlainTold}
-use Rattle.ps_params.specs.Notes.{Note, counts_for, row_after, row_at}
+use Rattle.ps_params.specs.Notes.{Note, counts_for, row_after, noted_row}
 use Rattle.ps_store.specs.declared.events.Event.{Event}
 use Rattle.ps_store.specs.declared.fixed.Fixed.{Fixed}
 use Rattle.ps_bucket_log.specs.declared.takes.TakenBucket.{TakenBucket}
@@ -34,11 +34,11 @@ use Rattle.ps_store.specs.Ledgers.{Ledger, ledger_of}
 use Rattle.ps_store.specs.LedgerLaws.{IsWhole}
 use Rattle.ps_store.specs.Noting.{noted}
 use Rattle.ps_store.specs.Originals.{Timed, timed_from, timed}
-use Rattle.ps_store.specs.Readings.{AreTold, names_of, bucket_upto, Takes, batch_in, batch_of, covered_of}
+use Rattle.ps_store.specs.Readings.{AreToldBehindMark, asker_bucket_names, bucket_upto, TakesCheckpoint, batch_in, batch_of, covered_of}
 use Rattle.ps_store.specs.StepLaws.{transactions_upto}
 use Rattle.ps_store.specs.StoreLogs.{log_at}
 use Rattle.ps_store.specs.Stores.{StoreStandsFor}
-use Rattle.ps_store.specs.Generations.{mark_of, is_of, Ending, ending_of}
+use Rattle.ps_store.specs.Generations.{mark_of, is_of_generation, Ending, ending_of}
 use Rattle.ps_store.specs.Limits.{greatest}
 use Rattle.ps_store.specs.StoreGenerations.{by_of, prefixed, log_of, ending_from, ending_at}
 use Rattle.ps_store.specs.declared.generations.Ending.{Ending as StoredEnding}
@@ -133,30 +133,30 @@ module _ (fixed : Fixed) (store : Store) (history : List Event) (h : StoreStands
 
   -- at a position from the checkpoint's on up to which all is written, rows stand by the index as by the changes of all that is fed
   rows_same : (p : ℕ) → l.position ≤ p → length (timed (transactions_upto p l.fed)) ≤ l.written → (table id : List ℕ)
-      → row_at store.index.notes table id p ≡ row_at (notes_read definitions l.fed) table id p
+      → noted_row store.index.notes table id p ≡ noted_row (notes_read definitions l.fed) table id p
   rows_same p late whole table id =
       let w = counts_history fixed.rules history h.legal in
       let written : List Timed = take l.written (timed l.fed) in
       let front : upto_timed p written ≡ upto_timed p (timed l.fed) = written_upto l.fed l.written p w.rises whole ∙ sym (upto-timed p l.fed) in
       sym (h.stands.index.notes table id p late)
-      ∙ ap (λ (ns : List Note). row_at ns table id p) (noted_more definitions [] written)
+      ∙ ap (λ (ns : List Note). noted_row ns table id p) (noted_more definitions [] written)
       ∙ unseen definitions table id p None written
-      ∙ ap (λ (us : List Timed). row_at (read_notes definitions us) table id p) front
+      ∙ ap (λ (us : List Timed). noted_row (read_notes definitions us) table id p) front
       ∙ sym (unseen definitions table id p None (timed l.fed))
-      ∙ ap (λ (ns : List Note). row_at ns table id p) (reads_are definitions l.fed)
+      ∙ ap (λ (ns : List Note). noted_row ns table id p) (reads_are definitions l.fed)
 
   -- so the index stands for the source there
   stands_whole : NotesReadAreTheSource → (p : ℕ) → l.position ≤ p → length (timed (transactions_upto p l.fed)) ≤ l.written
-      → StandsAt store.index.rules.definitions store.index.notes p (rows_in (source_at l.fed p))
+      → IndexStandsAt store.index.rules.definitions store.index.notes p (rows_in (source_at l.fed p))
   stands_whole law p late whole =
-      let here : StandsAt definitions store.index.notes p (rows_in (source_at l.fed p)) =
+      let here : IndexStandsAt definitions store.index.notes p (rows_in (source_at l.fed p)) =
       λ r read. let e = rows_same p late whole r.table r.id in let s = law definitions l.fed p r read in (λ c. e ∙ s.0 c, λ k. s.1 (sym e ∙ k)) in
-      subst (λ (r : RuleSet). StandsAt r.definitions store.index.notes p (rows_in (source_at l.fed p))) (sym h.stands.index.rules) here
+      subst (λ (r : RuleSet). IndexStandsAt r.definitions store.index.notes p (rows_in (source_at l.fed p))) (sym h.stands.index.rules) here
 
   -- and at the checkpoint's
-  stands_at : NotesReadAreTheSource → StandsAt store.index.rules.definitions store.index.notes store.checkpoint.position.0 (rows_in (source_at l.fed l.position))
+  stands_at : NotesReadAreTheSource → IndexStandsAt store.index.rules.definitions store.index.notes store.checkpoint.position.0 (rows_in (source_at l.fed l.position))
   stands_at law =
-      subst (λ (p : ℕ). StandsAt store.index.rules.definitions store.index.notes p (rows_in (source_at l.fed l.position))) (sym h.stands.position)
+      subst (λ (p : ℕ). IndexStandsAt store.index.rules.definitions store.index.notes p (rows_in (source_at l.fed l.position))) (sym h.stands.position)
       (stands_whole law l.position (omega arith) (counts_history fixed.rules history h.legal).whole.all)
 
   pub gives_buckets : NotesReadAreTheSource → (p : ℕ) → l.position ≤ p → IsWhole l p → GivesBuckets store.index l p
@@ -184,14 +184,14 @@ module _ (fixed : Fixed) (store : Store) (history : List Event) (h : StoreStands
 
   -- the store's log of a bucket is that of the ledger, or none
   log_shorter : (name : List ℕ) → length (log_at store.logs name) ≤ length (l.log name)
-  log_shorter name = subst (λ (ops : List Op). length ops ≤ length (l.log name)) (sym (h.stands.logs name)) (by (is_of l.force.number name))
+  log_shorter name = subst (λ (ops : List Op). length ops ≤ length (l.log name)) (sym (h.stands.logs name)) (by (is_of_generation l.force.number name))
     where
       by : (b : Bool) → length (if b then l.log name else []) ≤ length (l.log name)
       by true = omega arith
       by false = omega arith
 
   module _ (asker : Asker) (names : List (List ℕ)) (law : NotesReadAreTheSource)
-      (tells : (source : List SourceRow) → StandsAt store.index.rules.definitions store.index.notes store.checkpoint.position.0 source → names ≡ bucket_names (by_of store).rules.definitions asker source) where
+      (tells : (source : List SourceRow) → IndexStandsAt store.index.rules.definitions store.index.notes store.checkpoint.position.0 source → names ≡ bucket_names (by_of store).rules.definitions asker source) where
     abbrev rows : List SourceRow
     rows = rows_in (source_at l.fed l.position)
 
@@ -199,20 +199,20 @@ module _ (fixed : Fixed) (store : Store) (history : List Event) (h : StoreStands
     plain_are : names ≡ bucket_names l.force.rules.definitions asker rows
     plain_are = tells rows (stands_at law) ∙ ap (λ (r : RuleSet). bucket_names r.definitions asker rows) (sym h.stands.rules)
 
-    pub too_many : (count : ℕ) → count ≡ length names → store.fixed.limits.buckets < length names → Takes fixed history asker (Err (TooManyBuckets count))
+    pub too_many : (count : ℕ) → count ≡ length names → store.fixed.limits.buckets < length names → TakesCheckpoint fixed history asker (Err (TooManyBuckets count))
     too_many count is above =
-        let many : length names ≡ length (names_of l asker) = ap length plain_are ∙ sym (length_map (λ (name : List ℕ). mark_of l.force.number ++ name) (bucket_names l.force.rules.definitions asker rows)) in
+        let many : length names ≡ length (asker_bucket_names l asker) = ap length plain_are ∙ sym (length_map (λ (name : List ℕ). mark_of l.force.number ++ name) (bucket_names l.force.rules.definitions asker rows)) in
         record {
           count_is = is ∙ many;
           above = omega (arith, is, above, limit_is);
         }
 
     module _ (marked : List (List ℕ)) (marked_is : marked ≡ prefixed store.generations.mark names) where
-      names_are : marked ≡ names_of l asker
+      names_are : marked ≡ asker_bucket_names l asker
       names_are = marked_is ∙ (λ i. prefixed (h.stands.generations.mark_is i) (plain_are i))
 
       -- their logs are those of the ledger
-      own_logs : (name : List ℕ) → Has (names_of l asker) name → log_at store.logs name ≡ l.log name
+      own_logs : (name : List ℕ) → Has (asker_bucket_names l asker) name → log_at store.logs name ≡ l.log name
       own_logs name has = h.stands.logs name ∙ log_mine l.force.number l.log name (names_own l.force.number l.force.rules asker rows well.force.are name has)
 
       few_are : (buckets : List TakenBucket) → length names ≤ store.fixed.limits.buckets → buckets ≡ map (λ (name : List ℕ). bucket_upto store.checkpoint.op.0 name (log_at store.logs name)) marked
@@ -223,7 +223,7 @@ module _ (fixed : Fixed) (store : Store) (history : List Event) (h : StoreStands
 
       pub take_done : (buckets : List TakenBucket) (number : Option ℕ) → number ≡ covered_of l asker → ArePlainTold names → length names ≤ store.fixed.limits.buckets
           → buckets ≡ map (λ (name : List ℕ). bucket_upto store.checkpoint.op.0 name (log_at store.logs name)) marked
-          → Takes fixed history asker (Ok (record {
+          → TakesCheckpoint fixed history asker (Ok (record {
             position = store.checkpoint.position;
             head = store.head;
             closed = store.closed;
@@ -234,12 +234,12 @@ module _ (fixed : Fixed) (store : Store) (history : List Event) (h : StoreStands
       take_done buckets number covers told few are =
           let op_is : (λ (name : List ℕ). bucket_upto store.checkpoint.op.0 name (log_at store.logs name)) ≡ (λ (name : List ℕ). bucket_upto l.op name (log_at store.logs name)) =
           λ i name. bucket_upto (h.stands.op i) name (log_at store.logs name) in
-          let all : buckets ≡ map (λ (name : List ℕ). bucket_upto l.op name (l.log name)) (names_of l asker) =
+          let all : buckets ≡ map (λ (name : List ℕ). bucket_upto l.op name (l.log name)) (asker_bucket_names l asker) =
           are
           ∙ (λ i. map (op_is i) (names_are i))
-          ∙ same_at (λ (name : List ℕ). bucket_upto l.op name (log_at store.logs name)) (λ (name : List ℕ). bucket_upto l.op name (l.log name)) (names_of l asker) (λ name has. ap (bucket_upto l.op name) (own_logs name has)) in
-          let named : names_of l asker ≡ map (λ (b : TakenBucket). b.name) buckets =
-          names_kept l.op l.log (names_of l asker) ∙ ap (map (λ (b : TakenBucket). b.name)) (sym all) in
+          ∙ same_at (λ (name : List ℕ). bucket_upto l.op name (log_at store.logs name)) (λ (name : List ℕ). bucket_upto l.op name (l.log name)) (asker_bucket_names l asker) (λ name has. ap (bucket_upto l.op name) (own_logs name has)) in
+          let named : asker_bucket_names l asker ≡ map (λ (b : TakenBucket). b.name) buckets =
+          names_kept l.op l.log (asker_bucket_names l asker) ∙ ap (map (λ (b : TakenBucket). b.name)) (sym all) in
           record {
             value = λ i. record {
               position = record { 0 = h.stands.position i };
@@ -251,8 +251,8 @@ module _ (fixed : Fixed) (store : Store) (history : List Event) (h : StoreStands
             };
             few = few_are buckets few are;
             rise = subst (IsStrictlySortedBy (slice_cmp nat_cmp)) named
-                (rises_sorted name_cmp (names_of l asker) (marked_rise l.force.number (bucket_names l.force.rules.definitions asker rows) (in_order_rises (flat_map (definition_names asker rows) l.force.rules.definitions))));
-            told = subst AreTold named (all_told l.force.number l.force.rules asker rows number_low well.force.are (subst ArePlainTold plain_are told));
+                (rises_sorted name_cmp (asker_bucket_names l asker) (marked_rise l.force.number (bucket_names l.force.rules.definitions asker rows) (in_order_rises (flat_map (definition_names asker rows) l.force.rules.definitions))));
+            told = subst AreToldBehindMark named (all_told l.force.number l.force.rules asker rows number_low well.force.are (subst ArePlainTold plain_are told));
           }
 
       -- and the looks are counted by the names

@@ -9,14 +9,14 @@ use Rattle.ps_definitions.specs.RuleSets.{RuleSet, AreRules}
 use Rattle.ps_store.specs.declared.events.Event.{Event}
 use Rattle.ps_store.specs.declared.events.Event.TheVariants.{Feed, Close, Write, Commit, Compact, WriteCheckpoint, Deploy, Build, Switch, Abandon}
 use Rattle.ps_store.specs.Generations.{Lane, lane_next, Coming, queue_in}
-use Rattle.ps_store.specs.Histories.{written_in, switches_in, compacts, Tells, TellsLane, TellsGenerations}
+use Rattle.ps_store.specs.Histories.{written_in, switches_in, compacts, HistoryTells, TellsLane, TellsGenerations}
 use Rattle.ps_store.specs.Laws.{Rises, HaveNumbers}
-use Rattle.ps_store.specs.Ledgers.{Given, Ledger, fresh, head_of, timed_of, unwritten, next_ops, newest_of, wrote_next, write_next, build_with, build_next, switch_to, drop_coming, end_of, ledger_after, ledger_of, op_at, CanCome, IsLegalFrom, IsLegal}
+use Rattle.ps_store.specs.Ledgers.{GivenIds, Ledger, fresh_ledger, head_of, timed_of, unwritten, next_ops, newest_of, wrote_next, write_next, build_with, build_next, switch_to, drop_coming, end_of, ledger_after, ledger_of, op_at, CanCome, IsLegalFrom, IsLegal}
 use Rattle.ps_store.specs.LedgerLaws.{TellsReach}
 use Rattle.ps_store.specs.Originals.{Entered, Timed, timed, after, in_bucket}
 use Rattle.ps_store.specs.Reach.{Reached}
 use Rattle.ps_store.specs.StepLaws.{transactions_upto}
-use Rattle.ps_store.specs.Steps.{changes_of}
+use Rattle.ps_store.specs.Steps.{step_changes}
 use Rattle.ps_store.proofs.Filling.{in_bucket_append}
 use Rattle.ps_store.proofs.Fronts.{not_le, is_le, upto-timed}
 use Rattle.ps_store.proofs.Generating.{IsLane, steps_from, moments_front}
@@ -35,7 +35,7 @@ fold_after (t ∷ ts) source = fold_after ts (after source t)
 
 lane_tells : (l : Ledger) (lane : Lane) (queue : List Timed) → IsLane l.entered l.last l.begun (done_of l) (unwritten l) lane queue → TellsLane l lane
 lane_tells l lane queue h =
-    let rises : MomentsRise 0 0 (changes_of lane.steps) = moments_front 0 0 (changes_of lane.steps) (queue ++ unwritten l) h.moments in
+    let rises : MomentsRise 0 0 (step_changes lane.steps) = moments_front 0 0 (step_changes lane.steps) (queue ++ unwritten l) h.moments in
     record {
       steps = steps_rise lane.rules.definitions [] 0 0 0 lane.steps (steps_from lane.rules.definitions [] 0 0 0 lane.steps (l.last + 1) h.ids rises);
       source = h.source;
@@ -64,12 +64,12 @@ pub record WholeAt (fed : List Transaction) (written position : ℕ) : Type 0 wh
   pub all : length (timed (transactions_upto position fed)) ≤ written
 
 -- the transactions, how many changes are written, what is reached, the checkpoint's position, and what the Writes gave
-pub record Counts (fed : List Transaction) (written : ℕ) (reach : Reached) (position : ℕ) (given : List Given) (wrote : ℕ) : Type 0 where
+pub record Counts (fed : List Transaction) (written : ℕ) (reach : Reached) (position : ℕ) (given : List GivenIds) (wrote : ℕ) : Type 0 where
   pub rises : Rises 0 fed
   pub within : written ≤ length (timed fed)
   pub place : SamePlace reach (placed written fed)
-  pub positions : map (λ (g : Given). g.position) given ≡ map (λ (t : Timed). t.position) (take written (timed fed))
-  pub wrote_is : wrote ≡ fold max 0 (map (λ (g : Given). g.newest) given)
+  pub positions : map (λ (g : GivenIds). g.position) given ≡ map (λ (t : Timed). t.position) (take written (timed fed))
+  pub wrote_is : wrote ≡ fold max 0 (map (λ (g : GivenIds). g.newest) given)
   pub op : reach.op ≡ op_at reach.position given
   pub whole : WholeAt fed written position
   pub behind : position ≤ reach.position
@@ -77,23 +77,23 @@ pub record Counts (fed : List Transaction) (written : ℕ) (reach : Reached) (po
 abbrev pub CountsOf : Ledger → Type 0
 CountsOf l = Counts l.fed l.written l.reach l.position l.given l.wrote
 
-abbrev op_from : ℕ → ℕ → List Given → ℕ
-op_from op p gs = fold (λ (op : ℕ) (g : Given). if nat_le g.position p then max op g.newest else op) op gs
+abbrev op_from : ℕ → ℕ → List GivenIds → ℕ
+op_from op p gs = fold (λ (op : ℕ) (g : GivenIds). if nat_le g.position p then max op g.newest else op) op gs
 
-pub op_past : (p : ℕ) (gs : List Given) (g : Given) (op : ℕ) → p < g.position → op_from op p (gs ++ g ∷ []) ≡ op_from op p gs
+pub op_past : (p : ℕ) (gs : List GivenIds) (g : GivenIds) (op : ℕ) → p < g.position → op_from op p (gs ++ g ∷ []) ≡ op_from op p gs
 op_past p [] g op past = ap (λ (b : Bool). if b then max op g.newest else op) (not_le g.position p past)
 op_past p (x ∷ gs) g op past = op_past p gs g (if nat_le x.position p then max op x.newest else op) past
 
-abbrev GivenUpTo : ℕ → List Given → Type 0
+abbrev GivenUpTo : ℕ → List GivenIds → Type 0
 GivenUpTo p [] = Unit {0}
 GivenUpTo p (g ∷ gs) = (g.position ≤ p) × GivenUpTo p gs
 
-given_low : (p : ℕ) (gs : List Given) (ts : List Timed) → map (λ (g : Given). g.position) gs ≡ map (λ (t : Timed). t.position) ts → AllUpTo p ts → GivenUpTo p gs
+given_low : (p : ℕ) (gs : List GivenIds) (ts : List Timed) → map (λ (g : GivenIds). g.position) gs ≡ map (λ (t : Timed). t.position) ts → AllUpTo p ts → GivenUpTo p gs
 given_low p [] ts same all = tt
 given_low p (g ∷ gs) [] same all = absurd (cc)
 given_low p (g ∷ gs) (t ∷ ts) same all = let here : g.position ≡ t.position = cc in (omega (arith, here, all.0), given_low p gs ts (cc) all.1)
 
-op_all : (p : ℕ) (gs : List Given) (op : ℕ) → GivenUpTo p gs → op_from op p gs ≡ fold max op (map (λ (g : Given). g.newest) gs)
+op_all : (p : ℕ) (gs : List GivenIds) (op : ℕ) → GivenUpTo p gs → op_from op p gs ≡ fold max op (map (λ (g : GivenIds). g.newest) gs)
 op_all p [] op low = refl
 op_all p (g ∷ gs) op low = ap (λ (b : Bool). op_from (if b then max op g.newest else op) p gs) (is_le g.position p low.0) ∙ op_all p gs (max op g.newest) low.1
 
@@ -102,8 +102,8 @@ max_push [] n m = refl
 max_push (x ∷ ns) n m = max_push ns n (max m x)
 
 -- with no change over, the op is the last id of a Write
-op_moved : (fed : List Transaction) (written : ℕ) (reach : Reached) (given : List Given) (wrote : ℕ) → Rises 0 fed → SamePlace reach (placed written fed) → reach.over ≡ 0 → reach.op ≡ wrote
-    → map (λ (g : Given). g.position) given ≡ map (λ (t : Timed). t.position) (take written (timed fed)) → wrote ≡ fold max 0 (map (λ (g : Given). g.newest) given) → reach.op ≡ op_at reach.position given
+op_moved : (fed : List Transaction) (written : ℕ) (reach : Reached) (given : List GivenIds) (wrote : ℕ) → Rises 0 fed → SamePlace reach (placed written fed) → reach.over ≡ 0 → reach.op ≡ wrote
+    → map (λ (g : GivenIds). g.position) given ≡ map (λ (t : Timed). t.position) (take written (timed fed)) → wrote ≡ fold max 0 (map (λ (g : GivenIds). g.newest) given) → reach.op ≡ op_at reach.position given
 op_moved fed written reach given wrote rises place none last positions wrote_is =
     let done = all_reached fed written reach rises place none in
     let upto : AllUpTo reach.position (take written (timed fed)) = subst (AllUpTo reach.position) (upto-timed reach.position fed ∙ sym done) (upto_low reach.position (timed fed)) in
@@ -118,14 +118,14 @@ reach_whole fed written reach rises place =
 pub counts_write : (l : Ledger) (t : Timed) (ts : List Timed) → unwritten l ≡ t ∷ ts → CountsOf l → CountsOf (write_next l t)
 counts_write l t ts is h =
     let d = drop_next l.written (timed l.fed) ts t is in
-    let g : Given = record { position = t.position; newest = newest_of l.last (next_ops l t) } in
+    let g : GivenIds = record { position = t.position; newest = newest_of l.last (next_ops l t) } in
     let place = place_next l (wrote_next l t) h.place in
     let done : take (l.written + 1) (timed l.fed) ≡ take l.written (timed l.fed) ++ t ∷ [] = ap (λ (k : ℕ). take k (timed l.fed)) (plus_one l.written) ∙ d.0 in
-    let positions : map (λ (x : Given). x.position) (l.given ++ g ∷ []) ≡ map (λ (x : Timed). x.position) (take (l.written + 1) (timed l.fed)) =
-    map_more (λ (x : Given). x.position) l.given g ∙ ap (λ (ns : List ℕ). ns ++ t.position ∷ []) h.positions
+    let positions : map (λ (x : GivenIds). x.position) (l.given ++ g ∷ []) ≡ map (λ (x : Timed). x.position) (take (l.written + 1) (timed l.fed)) =
+    map_more (λ (x : GivenIds). x.position) l.given g ∙ ap (λ (ns : List ℕ). ns ++ t.position ∷ []) h.positions
     ∙ sym (ap (map (λ (x : Timed). x.position)) done ∙ map_more (λ (x : Timed). x.position) (take l.written (timed l.fed)) t) in
-    let wrote : wrote_next l t ≡ fold max 0 (map (λ (x : Given). x.newest) (l.given ++ g ∷ [])) =
-    ap (λ (n : ℕ). max n g.newest) h.wrote_is ∙ sym (ap (fold max 0) (map_more (λ (x : Given). x.newest) l.given g) ∙ max_push (map (λ (x : Given). x.newest) l.given) g.newest 0) in
+    let wrote : wrote_next l t ≡ fold max 0 (map (λ (x : GivenIds). x.newest) (l.given ++ g ∷ [])) =
+    ap (λ (n : ℕ). max n g.newest) h.wrote_is ∙ sym (ap (fold max 0) (map_more (λ (x : GivenIds). x.newest) l.given g) ∙ max_push (map (λ (x : GivenIds). x.newest) l.given) g.newest 0) in
     let past : l.reach.position < t.position = next_past l.fed l.reach.position l.written t ts h.rises (reach_whole l.fed l.written l.reach h.rises h.place).all is in
     record {
       rises = h.rises;
@@ -138,8 +138,8 @@ counts_write l t ts is h =
       behind = omega (arith, h.behind, place_of l.fed l.written l.reach h.place, place_of l.fed (l.written + 1) (write_next l t).reach place, reached_up l.fed 0 l.written (l.written + 1) h.rises (omega arith));
     }
   where
-    op_next : (g : Given) → Moves (wrote_next l t) l.reach.position l.reach.op (l.reach.over + 1) l.reach.left (write_next l t).reach → SamePlace (write_next l t).reach (placed (l.written + 1) l.fed)
-        → map (λ (x : Given). x.position) (l.given ++ g ∷ []) ≡ map (λ (x : Timed). x.position) (take (l.written + 1) (timed l.fed)) → wrote_next l t ≡ fold max 0 (map (λ (x : Given). x.newest) (l.given ++ g ∷ []))
+    op_next : (g : GivenIds) → Moves (wrote_next l t) l.reach.position l.reach.op (l.reach.over + 1) l.reach.left (write_next l t).reach → SamePlace (write_next l t).reach (placed (l.written + 1) l.fed)
+        → map (λ (x : GivenIds). x.position) (l.given ++ g ∷ []) ≡ map (λ (x : Timed). x.position) (take (l.written + 1) (timed l.fed)) → wrote_next l t ≡ fold max 0 (map (λ (x : GivenIds). x.newest) (l.given ++ g ∷ []))
         → l.reach.position < g.position → (write_next l t).reach.op ≡ op_at (write_next l t).reach.position (l.given ++ g ∷ [])
     op_next g (stays same) place positions wrote past =
         subst (λ (r : Reached). r.op ≡ op_at r.position (l.given ++ g ∷ [])) (sym same) (h.op ∙ sym (op_past l.reach.position l.given g 0 past))
@@ -173,7 +173,7 @@ counts_fed l t later h =
     let done : take l.written (timed (l.fed ++ t ∷ [])) ≡ take l.written (timed l.fed) = ap (take l.written) all ∙ take_append l.written (timed l.fed) (timed_of t) h.within in
     let rises : Rises 0 (l.fed ++ t ∷ []) = rises_push l.fed t 0 h.rises later in
     let place = place_more l l.wrote t h.place in
-    let positions : map (λ (x : Given). x.position) l.given ≡ map (λ (x : Timed). x.position) (take l.written (timed (l.fed ++ t ∷ []))) = h.positions ∙ sym (ap (map (λ (x : Timed). x.position)) done) in
+    let positions : map (λ (x : GivenIds). x.position) l.given ≡ map (λ (x : Timed). x.position) (take l.written (timed (l.fed ++ t ∷ []))) = h.positions ∙ sym (ap (map (λ (x : Timed). x.position)) done) in
     let same : transactions_upto l.position (l.fed ++ t ∷ []) ≡ transactions_upto l.position l.fed = upto_fed l.fed t l.position (omega (arith, h.whole.low, later)) in
     record {
       rises = rises;
@@ -187,7 +187,7 @@ counts_fed l t later h =
     }
   where
     op_fed : Moves l.wrote l.reach.position l.reach.op l.reach.over (l.reach.left ++ end_of t ∷ []) (ledger_after l (Feed t)).reach → Rises 0 (l.fed ++ t ∷ []) → SamePlace (ledger_after l (Feed t)).reach (placed l.written (l.fed ++ t ∷ []))
-        → map (λ (x : Given). x.position) l.given ≡ map (λ (x : Timed). x.position) (take l.written (timed (l.fed ++ t ∷ []))) → (ledger_after l (Feed t)).reach.op ≡ op_at (ledger_after l (Feed t)).reach.position l.given
+        → map (λ (x : GivenIds). x.position) l.given ≡ map (λ (x : Timed). x.position) (take l.written (timed (l.fed ++ t ∷ []))) → (ledger_after l (Feed t)).reach.op ≡ op_at (ledger_after l (Feed t)).reach.position l.given
     op_fed (stays same) rises place positions = subst (λ (r : Reached). r.op ≡ op_at r.position l.given) (sym same) h.op
     op_fed (moved none last) rises place positions = op_moved (l.fed ++ t ∷ []) l.written (ledger_after l (Feed t)).reach l.given l.wrote rises place none last positions h.wrote_is
 
@@ -208,7 +208,7 @@ counts_from [] l legal h = h
 counts_from (e ∷ history) l legal h = counts_from history (ledger_after l e) legal.1 (counts_event l e legal.0 h)
 
 pub counts_history : (rules : RuleSet) (history : List Event) → IsLegal rules history → CountsOf (ledger_of rules history)
-counts_history rules history legal = counts_from history (fresh rules) legal
+counts_history rules history legal = counts_from history (fresh_ledger rules) legal
     (record { rises = tt; within = omega arith; place = record { position = refl; over = refl; left = refl }; positions = refl; wrote_is = refl; op = refl; whole = record { low = omega arith; all = omega arith }; behind = omega arith })
 
 pub tells_reach : (rules : RuleSet) (history : List Event) → IsLegal rules history → TellsReach (ledger_of rules history)
@@ -342,16 +342,16 @@ untouched bucket (Abandon ∷ history) l none h = untouched bucket history (ledg
 
 -- ---- the law
 
-pub ledgers_tell : (rules : RuleSet) (history : List Event) → IsLegal rules history → Tells history (ledger_of rules history)
+pub ledgers_tell : (rules : RuleSet) (history : List Event) → IsLegal rules history → HistoryTells history (ledger_of rules history)
 ledgers_tell rules history legal =
     let l : Ledger = ledger_of rules history in
     let h = counts_history rules history legal in
     record {
-      count = let same = counts history (fresh rules) legal in omega (arith, same);
+      count = let same = counts history (fresh_ledger rules) legal in omega (arith, same);
       within = h.within;
       position = place_of l.fed l.written l.reach h.place;
       op = h.op;
       wrote = h.wrote_is;
-      ids = gaps_from history (fresh rules) 0 (switches_in history) (omega arith) legal refl;
-      log = λ bucket none. untouched bucket history (fresh rules) none refl;
+      ids = gaps_from history (fresh_ledger rules) 0 (switches_in history) (omega arith) legal refl;
+      log = λ bucket none. untouched bucket history (fresh_ledger rules) none refl;
     }

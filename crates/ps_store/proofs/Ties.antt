@@ -11,8 +11,8 @@ use Rattle.ps_definitions.specs.RuleSets.{RuleSet, AreRules}
 use Rattle.ps_queries.specs.Vectors.{asked_of}
 use Rattle.ps_definitions.specs.Vectors.{parameter_vectors}
 use Rattle.ps_granted.specs.declared.copies.Granted.{Granted}
-use Rattle.ps_granted.specs.Grants.{is_granted, copy_with, copy_of, grant_of, granted_by_query, granted_by, granted}
-use Rattle.ps_granted.specs.Latest.{object_of, TiesAgree}
+use Rattle.ps_granted.specs.Grants.{is_granted, copy_with, granted_copy, grant_of, granted_by_query, granted_by, granted}
+use Rattle.ps_granted.specs.Latest.{granted_object, TiesAgree}
 use Rattle.ps_queries.specs.Objects.{object_id, content_of}
 use Rattle.ps_granted.specs.Sources.{row_of, rows_in}
 use Rattle.ps_data.proofs.Members.{Has, from_flat, contains_has}
@@ -68,7 +68,7 @@ granted_from definitions asker source copy h =
     }
 
     by_test : (d : Definition) (q : Planned) (e : Key × Version) → Has definitions d → Has d.queries q → Has source e → (b : Bool)
-        → is_granted asker d.names (parameter_vectors d asker (rows_in source)) q.query (row_of e) ≡ b → cond b (copy_of asker q e) None ≡ Some copy → IsGrantedFrom definitions asker source copy
+        → is_granted asker d.names (parameter_vectors d asker (rows_in source)) q.query (row_of e) ≡ b → cond b (granted_copy asker q e) None ≡ Some copy → IsGrantedFrom definitions asker source copy
     by_test d q e i j k true t g = by_id d q e i j k t (object_id (asked_of asker (row_of e)) q.query) refl g
     by_test d q e i j k false t g = absurd (cc)
 
@@ -77,7 +77,7 @@ abbrev pub MomentsTellRows : Source → Type 0
 MomentsTellRows source = (e f : Key × Version) → Has source e → Has source f → e.1.position ≡ f.1.position → e.1.index ≡ f.1.index → e ≡ f
 
 tied_same : (rules : RuleSet) (asker : Asker) (source : Source) → AreRules rules → MomentsTellRows source → (c d : Granted) → Has (granted rules.definitions asker source) c → Has (granted rules.definitions asker source) d
-    → HaveOneMoment c d → object_of c ≡ object_of d → c.content ≡ d.content
+    → HaveOneMoment c d → granted_object c ≡ granted_object d → c.content ≡ d.content
 tied_same rules asker source are tell c d h g one object =
     let a = granted_from rules.definitions asker source c h in
     let b = granted_from rules.definitions asker source d g in

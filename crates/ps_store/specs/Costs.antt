@@ -7,7 +7,7 @@ use Rattle.ps_bucket_log.specs.declared.batches.Batch.{Batch}
 use Rattle.ps_bucket_log.specs.declared.ops.Op.{Op}
 use Rattle.ps_segments.specs.Depths.{IsDepth}
 use Rattle.ps_store.specs.Ledgers.{Ledger}
-use Rattle.ps_store.specs.Readings.{names_of}
+use Rattle.ps_store.specs.Readings.{asker_bucket_names}
 
 -- none of the logs of these buckets has more operations
 abbrev pub AreNoLonger : (List ℕ → List Op) → ℕ → List (List ℕ) → Type 0
@@ -16,7 +16,7 @@ AreNoLonger logs n names = AllByRecursion (λ (name : List ℕ). length (logs na
 -- a take needs at most 3 (2 d + 4) looks for each of the asker's buckets, where d is the depth of the longest of their logs
 abbrev pub TakesFew : Ledger → Asker → ℕ → ℕ → Type 0
 TakesFew l asker before after =
-    (n d : ℕ) → IsDepth n d → AreNoLonger l.log n (names_of l asker) → after ≤ before + length (names_of l asker) * (3 * (2 * d + 4))
+    (n d : ℕ) → IsDepth n d → AreNoLonger l.log n (asker_bucket_names l asker) → after ≤ before + length (asker_bucket_names l asker) * (3 * (2 * d + 4))
 
 -- a batch needs one look for each of its operations, and 2 d + 4 more, where d is the depth of the bucket's log
 abbrev pub ReadsFew : Ledger → List ℕ → Result Batch Memory → ℕ → ℕ → Type 0

@@ -7,7 +7,7 @@ use Rattle.std.specs.Ordering.{nat_cmp}
 use Rattle.ps_bucket_log.specs.declared.ops.Key.{Key}
 use Rattle.ps_bucket_log.specs.declared.ops.Op.{Op}
 use Rattle.ps_bucket_log.specs.Ops.{id_of, checksum, upto, newest}
-use Rattle.ps_bucket_log.specs.Buckets.{Bucket, after, bucket_of, fresh}
+use Rattle.ps_bucket_log.specs.Buckets.{Bucket, after, bucket_of, fresh_bucket}
 use Rattle.ps_bucket_log.specs.Logs.{IsRising}
 use Rattle.ps_bucket_log.specs.Standing.{IsHonest, IsHonestUpTo}
 use Rattle.ps_rows.specs.declared.changes.Transaction.{Transaction}
@@ -18,12 +18,12 @@ use Rattle.ps_store.specs.declared.events.Event.{Event}
 use Rattle.ps_store.specs.declared.events.Event.TheVariants.{WriteCheckpoint}
 use Rattle.ps_bucket_log.specs.declared.takes.Taken.{Taken}
 use Rattle.ps_bucket_log.specs.declared.takes.TakenBucket.{TakenBucket}
-use Rattle.ps_store.specs.Courses.{Course, Upload, ledger_at, course_of, upload_of, uploads_of, bucket_in, is_in}
+use Rattle.ps_store.specs.Courses.{Course, Upload, ledger_at, course_of, upload_of, uploads_of, bucket_in, has_taken_bucket}
 use Rattle.ps_store.specs.Latest.{ShowsLatest}
 use Rattle.ps_store.specs.Laws.{HaveNumbers}
 use Rattle.ps_store.specs.Ledgers.{ledger_of, last_number, IsLegal}
 use Rattle.ps_store.specs.Limits.{greatest}
-use Rattle.ps_store.specs.Readings.{covered_of, taken_names, AreTold}
+use Rattle.ps_store.specs.Readings.{covered_of, taken_names, AreToldBehindMark}
 use Rattle.ps_store.specs.Standing.{Holding}
 
 -- what readers of a bucket hold that took all its original operations up to the op of a place
@@ -41,13 +41,13 @@ AreApart (bucket ∷ buckets) = (bucket_in bucket.name buckets ≡ None) × AreA
 
 -- of the buckets that were taken at a place is held what their due readers hold, and of no other anything
 pub record HoldsTaken (course : Course) (n : ℕ) (held : Holding) : Type 0 where
-  pub own : (name : List ℕ) → is_in (course.take n).buckets name ≡ true → (key : Key) → held name key ≡ (due_bucket course n name).held key
-  pub only : (name : List ℕ) → is_in (course.take n).buckets name ≡ false → (key : Key) → held name key ≡ None
+  pub own : (name : List ℕ) → has_taken_bucket (course.take n).buckets name ≡ true → (key : Key) → held name key ≡ (due_bucket course n name).held key
+  pub only : (name : List ℕ) → has_taken_bucket (course.take n).buckets name ≡ false → (key : Key) → held name key ≡ None
 
 -- who is honest stays so as the history grows; who begins afresh is honest
 pub record StayHonest (course : Course) : Type 0 where
   pub later : (n m : ℕ) (name : List ℕ) (bucket : Bucket) → n ≤ m → IsHonestAt course n name bucket → IsHonestAt course m name bucket
-  pub afresh : (n : ℕ) (name : List ℕ) → IsHonestAt course n name fresh
+  pub afresh : (n : ℕ) (name : List ℕ) → IsHonestAt course n name fresh_bucket
 
 -- who takes a batch stays honest, and honest up to an id where no target is past that; who has reached the newest operation up to an id, is not
 -- past it and is honest up to it, holds all up to there
@@ -100,7 +100,7 @@ pub record TakesTell (course : Course) : Type 0 where
   pub apart : (n : ℕ) → AreApart (course.take n).buckets
   pub sums : (n : ℕ) (name : List ℕ) (bucket : TakenBucket) → bucket_in name (course.take n).buckets ≡ Some bucket
       → (bucket.sum.0 ≡ (due_bucket course n name).total) × (bucket.newest.0 ≡ newest (upto (course.op n) (course.original n name)))
-  pub rows : (n : ℕ) (held : Holding) (rows : List Shown) → AreTold (taken_names (course.take n)) → HoldsTaken course n held → ShowsLatest held rows → rows ≡ course.due n
+  pub rows : (n : ℕ) (held : Holding) (rows : List Shown) → AreToldBehindMark (taken_names (course.take n)) → HoldsTaken course n held → ShowsLatest held rows → rows ≡ course.due n
 
 -- what was committed stays
 abbrev pub Stays : Course → Type 0

@@ -64,5 +64,5 @@ abbrev pub bucket_in : List ℕ → List TakenBucket → Option TakenBucket
 bucket_in name [] = None
 bucket_in name (bucket ∷ buckets) = if bytes_eq name bucket.name then Some bucket else bucket_in name buckets
 
-abbrev pub is_in : List TakenBucket → List ℕ → Bool
-is_in buckets name = is_some (bucket_in name buckets)
+abbrev pub has_taken_bucket : List TakenBucket → List ℕ → Bool
+has_taken_bucket buckets name = is_some (bucket_in name buckets)

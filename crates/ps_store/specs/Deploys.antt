@@ -35,7 +35,7 @@ use Rattle.ps_store.specs.StoreGenerations.{StandsIn}
 use Rattle.ps_store.specs.StoreLogs.{log_at, first_ops}
 use Rattle.ps_store.specs.Stores.{IsKept, StoreStandsFor}
 use Rattle.ps_store.specs.Tails.{Ascend, notes_after, rows_after}
-use Rattle.ps_store.specs.Totals.{ops_of, totals_of}
+use Rattle.ps_store.specs.Totals.{entered_ops, totals_of}
 
 -- ---- new rules
 
@@ -186,7 +186,7 @@ IsNamedOf queue last (Some (refusals.TooWide count)) fault = IsWideAt queue coun
 IsNamedOf queue last (Some refusals.OpsFull) fault = fault ≡ building.OpsFull last
 
 -- a plan is taken
-pub record IsTaken (old : Building) (plan : Plan) (new : Building) : Type 0 where
+pub record PlanIsTaken (old : Building) (plan : Plan) (new : Building) : Type 0 where
   pub number : new.number ≡ old.number
   pub mark : new.mark ≡ old.mark
   pub by : new.by ≡ old.by
@@ -199,9 +199,9 @@ pub record IsTaken (old : Building) (plan : Plan) (new : Building) : Type 0 wher
   pub queue : new.queue.items ≡ drop (length plan.made.items) old.queue.items
 
 -- and counted
-pub record IsCounted (old : Building) (plan : Plan) (batched : Batched) : Type 0 where
+pub record BatchIsCounted (old : Building) (plan : Plan) (batched : Batched) : Type 0 where
   pub changes : batched.changes ≡ length plan.made.items
   pub operations : batched.operations ≡ length plan.entered.items
   pub first : batched.first ≡ first_ops (log_at old.logs) plan.entered.items
-  pub sum : batched.sum.0 ≡ sum_of (ops_of plan.entered.items)
+  pub sum : batched.sum.0 ≡ sum_of (entered_ops plan.entered.items)
   pub last : batched.last ≡ plan.last

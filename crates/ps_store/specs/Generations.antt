@@ -22,8 +22,8 @@ begins_with (b ∷ mark) [] = false
 begins_with (b ∷ mark) (c ∷ text) = b == c && begins_with mark text
 
 -- a bucket is of a generation: its name begins with the mark, or with no digit where the generation is the first
-abbrev pub is_of : ℕ → List ℕ → Bool
-is_of number bucket = if nat_le number 1 then not (begins_with_digit bucket) else begins_with (mark_of number) bucket
+abbrev pub is_of_generation : ℕ → List ℕ → Bool
+is_of_generation number bucket = if nat_le number 1 then not (begins_with_digit bucket) else begins_with (mark_of number) bucket
 
 -- ---- what is written of a generation
 
@@ -90,4 +90,4 @@ pub record Ended : Type 0 where
 -- how the generation of a bucket ended, none where it did not
 abbrev pub ending_of : List ℕ → List Ended → Option Ending
 ending_of bucket [] = None
-ending_of bucket (e ∷ es) = if is_of e.lane.number bucket then Some e.ending else ending_of bucket es
+ending_of bucket (e ∷ es) = if is_of_generation e.lane.number bucket then Some e.ending else ending_of bucket es

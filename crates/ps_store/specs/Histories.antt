@@ -3,11 +3,11 @@ use Rattle.std.specs.Prelude.{◌≡◌, ℕ, ◌+◌, ◌≤◌, ◌<◌, Bool,
 use Rattle.ps_definitions.specs.RuleSets.{RuleSet, AreRules}
 use Rattle.ps_store.specs.declared.events.Event.{Event}
 use Rattle.ps_store.specs.declared.events.Event.TheVariants.{Feed, Close, Write, Commit, Compact, WriteCheckpoint, Deploy, Build, Switch, Abandon}
-use Rattle.ps_store.specs.Generations.{mark_of, is_of, Lane, Coming}
+use Rattle.ps_store.specs.Generations.{mark_of, is_of_generation, Lane, Coming}
 use Rattle.ps_store.specs.Laws.{HaveNumbers}
-use Rattle.ps_store.specs.Ledgers.{Given, Ledger, ledger_of, reached_by, op_at, IsLegal}
+use Rattle.ps_store.specs.Ledgers.{GivenIds, Ledger, ledger_of, reached_by, op_at, IsLegal}
 use Rattle.ps_store.specs.Originals.{ops_from, timed, after, in_bucket}
-use Rattle.ps_store.specs.Steps.{changes_of, lane_ops, source_after, StepsRise}
+use Rattle.ps_store.specs.Steps.{step_changes, lane_ops, source_after, StepsRise}
 
 -- how many changes the Writes of a history wrote
 abbrev pub written_in : List Event → ℕ
@@ -69,17 +69,17 @@ has_deploy (Abandon ∷ history) = has_deploy history
 -- before which, every change is written; the op that a commit would give, where the former one is not greater, is the greatest id that the
 -- changes of the transactions up to there were given by a Write; the last id of a Write is the greatest of all of these; ids are those of
 -- all operations and of the Switches; and the log of a bucket that is never compacted is its original
-pub record Tells (history : List Event) (l : Ledger) : Type 0 where
+pub record HistoryTells (history : List Event) (l : Ledger) : Type 0 where
   pub count : l.written ≡ written_in history
   pub within : l.written ≤ length (timed l.fed)
   pub position : l.reach.position ≡ reached_by 0 l.written l.fed
   pub op : l.reach.op ≡ op_at l.reach.position l.given
-  pub wrote : l.wrote ≡ fold max 0 (map (λ (g : Given). g.newest) l.given)
+  pub wrote : l.wrote ≡ fold max 0 (map (λ (g : GivenIds). g.newest) l.given)
   pub ids : l.last ≡ length l.entered + switches_in history
   pub log : (bucket : List ℕ) → compacts bucket history ≡ false → l.log bucket ≡ in_bucket bucket l.entered
 
 abbrev pub LedgersTellHistories : Type 0
-LedgersTellHistories = (rules : RuleSet) (history : List Event) → IsLegal rules history → Tells history (ledger_of rules history)
+LedgersTellHistories = (rules : RuleSet) (history : List Event) → IsLegal rules history → HistoryTells history (ledger_of rules history)
 
 -- with no new rules there is one generation: it takes the written changes, ids count from 1, and a commit's op is that of what is reached
 pub record TellsOne (rules : RuleSet) (l : Ledger) : Type 0 where
@@ -87,7 +87,7 @@ pub record TellsOne (rules : RuleSet) (l : Ledger) : Type 0 where
   pub building : l.building ≡ None
   pub ended : l.ended ≡ []
   pub rules_are : l.force.rules ≡ rules
-  pub changes : changes_of l.force.steps ≡ take l.written (timed l.fed)
+  pub changes : step_changes l.force.steps ≡ take l.written (timed l.fed)
   pub source : l.force.source ≡ fold after [] (take l.written (timed l.fed))
   pub entered : l.entered ≡ ops_from rules.definitions [] 1 (take l.written (timed l.fed))
   pub by_steps : l.entered ≡ lane_ops [] rules.definitions [] l.force.steps
@@ -105,7 +105,7 @@ LedgersTellOneGeneration = (rules : RuleSet) (history : List Event) → IsLegal 
 pub record TellsLane (l : Ledger) (lane : Lane) : Type 0 where
   pub steps : StepsRise lane.rules.definitions [] lane.steps
   pub source : lane.source ≡ source_after [] lane.steps
-  pub own : (bucket : List ℕ) → is_of lane.number bucket ≡ true → in_bucket bucket l.entered ≡ in_bucket bucket (lane_ops (mark_of lane.number) lane.rules.definitions [] lane.steps)
+  pub own : (bucket : List ℕ) → is_of_generation lane.number bucket ≡ true → in_bucket bucket l.entered ≡ in_bucket bucket (lane_ops (mark_of lane.number) lane.rules.definitions [] lane.steps)
 
 -- the generation in force has taken all that is written, the one being built all but its queue, and no number is used twice
 pub record TellsGenerations (l : Ledger) : Type 0 where

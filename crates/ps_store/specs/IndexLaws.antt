@@ -4,7 +4,7 @@ use Rattle.ps_queries.specs.declared.askers.Asker.{Asker}
 use Rattle.ps_queries.specs.Vectors.{SourceRow}
 use Rattle.ps_rows.specs.Source.{source_at}
 use Rattle.ps_granted.specs.Sources.{rows_in}
-use Rattle.ps_params.specs.Indexes.{Index, StandsAt}
+use Rattle.ps_params.specs.Indexes.{Index, IndexStandsAt}
 use Rattle.ps_params.specs.Names.{bucket_names}
 use Rattle.ps_store.specs.declared.building.Building.{Building}
 use Rattle.ps_store.specs.declared.events.Event.{Event}
@@ -17,7 +17,7 @@ use Rattle.ps_store.specs.Stores.{StoreStandsFor}
 
 -- an index gives an asker these names at a position: those over each source that it stands for there
 abbrev pub GivesNames : Index → ℕ → Asker → List (List ℕ) → Type 0
-GivesNames index p asker names = (source : List SourceRow) → StandsAt index.rules.definitions index.notes p source → names ≡ bucket_names index.rules.definitions asker source
+GivesNames index p asker names = (source : List SourceRow) → IndexStandsAt index.rules.definitions index.notes p source → names ≡ bucket_names index.rules.definitions asker source
 
 -- it has forgotten nothing of a position, and gives each asker there the buckets that the asker has over the source
 pub record GivesBuckets (index : Index) (l : Ledger) (p : ℕ) : Type 0 where

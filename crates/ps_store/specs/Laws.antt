@@ -8,7 +8,7 @@ use Rattle.ps_rows.specs.declared.changes.Transaction.{Transaction}
 use Rattle.ps_rows.specs.declared.shown.Shown.{Shown}
 use Rattle.ps_rows.specs.Source.{Key as Object, source_at}
 use Rattle.ps_client_log.specs.Kept.{Kept, bucket_at}
-use Rattle.ps_client_log.specs.Rows.{HeldCopy, Holds, object_of, IsLatestContent, AreInOrder, row_at}
+use Rattle.ps_client_log.specs.Rows.{HeldCopy, BucketHolds, object_of, IsLatestContent, AreInOrder, shown_at}
 use Rattle.ps_queries.specs.declared.askers.Asker.{Asker}
 use Rattle.ps_definitions.specs.RuleSets.{RuleSet, AreRules}
 use Rattle.ps_definitions.specs.declared.definitions.Definition.{Definition}
@@ -63,8 +63,8 @@ pub record HoldsBucketsOf (definitions : List Definition) (asker : Asker) (rows 
 -- rows in order: of each object that is held the data of its latest copy
 pub record AreLatestRows (kept : Kept) (rows : List Shown) : Type 0 where
   pub in_order : AreInOrder rows
-  pub latest : (object : Object) → IfSome (row_at object rows) (IsLatestContent kept object)
-  pub all : (copy : HeldCopy) → Holds kept copy → IsSome (row_at (object_of copy) rows)
+  pub latest : (object : Object) → IfSome (shown_at object rows) (IsLatestContent kept object)
+  pub all : (copy : HeldCopy) → BucketHolds kept copy → IsSome (shown_at (object_of copy) rows)
 
 -- the rows of a client that holds what readers hold of an asker's buckets are those that are due to the asker
 abbrev pub LatestRowsAreDue : Type 0

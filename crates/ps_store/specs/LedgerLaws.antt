@@ -18,12 +18,12 @@ use Rattle.ps_store.specs.Steps.{StepsRise}
 use Rattle.ps_store.specs.Latest.{ShowsLatest}
 use Rattle.ps_store.specs.Laws.{Rises, HaveNumbers, AreSqlVectors}
 use Rattle.ps_store.specs.StepLaws.{HoldsLaneBuckets, transactions_upto}
-use Rattle.ps_store.specs.Generations.{mark_of, is_of, Lane}
+use Rattle.ps_store.specs.Generations.{mark_of, is_of_generation, Lane}
 use Rattle.ps_store.specs.Histories.{has_deploy}
 use Rattle.ps_bucket_log.specs.Batches as logs
 use Rattle.ps_params.specs.Names.{bucket_names}
-use Rattle.ps_store.specs.Readings.{names_of, batch_of, log_length_of}
-use Rattle.ps_store.specs.Totals.{bucket_names_of, names_of as buckets_in}
+use Rattle.ps_store.specs.Readings.{asker_bucket_names, batch_of, log_length_of}
+use Rattle.ps_store.specs.Totals.{bucket_names_of, buckets_entered as buckets_in}
 use Rattle.ps_store.specs.Ledgers.{Ledger, head_of, ledger_of, IsLegal}
 
 -- ---- what is fed and committed
@@ -141,7 +141,7 @@ force_of rules history = (ledger_of rules history).force
 
 -- what is held in the buckets of a generation, by their names without the mark
 abbrev pub held_in : ℕ → Holding → Holding
-held_in number held bucket key = if is_of number (mark_of number ++ bucket) then held (mark_of number ++ bucket) key else None
+held_in number held bucket key = if is_of_generation number (mark_of number ++ bucket) then held (mark_of number ++ bucket) key else None
 
 -- readers of the generation in force hold the entries of the rows that stand at the checkpoint's position, and ids rise with moments
 abbrev pub ReadersHoldCommitted : Type 0
@@ -159,7 +159,7 @@ CommittedRowsAreDue = (rules : RuleSet) (history : List Event) (asker : Asker) (
 
 -- with no new rules names have no mark, what is read of a bucket is what its log has, and all buckets are of the generation in force
 pub record ReadsOne (rules : RuleSet) (l : Ledger) : Type 0 where
-  pub names : (asker : Asker) → names_of l asker ≡ bucket_names rules.definitions asker (rows_in (source_at l.fed l.position))
+  pub names : (asker : Asker) → asker_bucket_names l asker ≡ bucket_names rules.definitions asker (rows_in (source_at l.fed l.position))
   pub batch : (bucket : List ℕ) (after upto : ℕ) → batch_of l bucket after upto ≡ logs.batch_of after upto (l.log bucket)
   pub length_is : (bucket : List ℕ) → log_length_of l bucket ≡ length (l.log bucket)
   pub buckets : AreRules rules → bucket_names_of l ≡ buckets_in l.entered

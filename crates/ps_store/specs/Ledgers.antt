@@ -10,7 +10,7 @@ use Rattle.ps_bucket_eval.specs.declared.placed.Placed.{Placed}
 use Rattle.ps_store.specs.declared.events.Event.{Event}
 use Rattle.ps_store.specs.declared.events.Event.TheVariants.{Feed, Close, Write, Commit, Compact, WriteCheckpoint, Deploy, Build, Switch, Abandon}
 use Rattle.ps_store.specs.declared.reach.End.{End}
-use Rattle.ps_store.specs.Generations.{is_of, Lane, fresh_lane, lane_next, step_lane, queue_of, Coming, with_change, queue_in, Ended, Switched, Abandoned}
+use Rattle.ps_store.specs.Generations.{is_of_generation, Lane, fresh_lane, lane_next, step_lane, queue_of, Coming, with_change, queue_in, Ended, Switched, Abandoned}
 use Rattle.ps_store.specs.Laws.{HaveNumbers}
 use Rattle.ps_store.specs.Limits.{greatest}
 use Rattle.ps_store.specs.Originals.{Entered, Timed, timed_from, timed, key_of, entries_at, in_bucket}
@@ -19,7 +19,7 @@ use Rattle.ps_store.specs.Reach.{Reached, settled}
 -- ---- what is known of a history
 
 -- of each written change the position of its transaction and its newest id, 0 where it gave none
-pub record Given : Type 0 where
+pub record GivenIds : Type 0 where
   pub position : ℕ
   pub newest : ℕ
 
@@ -31,7 +31,7 @@ pub record Ledger : Type 0 where
   pub written : ℕ
   pub last : ℕ
   pub wrote : ℕ
-  pub given : List Given
+  pub given : List GivenIds
   -- how far the transactions are written
   pub reach : Reached
   -- the checkpoint
@@ -49,8 +49,8 @@ pub record Ledger : Type 0 where
   -- the write checkpoints, each with the head at which it was made
   pub numbers : List Made
 
-abbrev pub fresh : RuleSet → Ledger
-fresh rules = record {
+abbrev pub fresh_ledger : RuleSet → Ledger
+fresh_ledger rules = record {
   fed = [];
   closed = false;
   written = 0;
@@ -174,7 +174,7 @@ ledger_after l Switch = switch_to l.building l
 ledger_after l Abandon = drop_coming l.building l
 
 abbrev pub ledger_of : RuleSet → List Event → Ledger
-ledger_of rules history = fold ledger_after (fresh rules) history
+ledger_of rules history = fold ledger_after (fresh_ledger rules) history
 
 -- the head of each number of a user's client; its last number, 0 where it has none
 abbrev pub heads_in : Ledger → List ℕ → List ℕ → List Position
@@ -189,7 +189,7 @@ covered_in l user client position = covered position (heads_in l user client)
 
 -- the original operations of a bucket, where it is of the generation in force
 abbrev pub force_ops : Ledger → List ℕ → List Op
-force_ops l bucket = if is_of l.force.number bucket then in_bucket bucket l.entered else []
+force_ops l bucket = if is_of_generation l.force.number bucket then in_bucket bucket l.entered else []
 
 -- an event may come
 abbrev pub CanCome : Ledger → Event → Type 0
@@ -197,7 +197,7 @@ CanCome l (Feed t) = (l.closed ≡ false) × (head_of l.fed < t.position.0) × (
 CanCome l Close = Unit {0}
 CanCome l (Write n) = (1 ≤ n) × (n ≤ length (unwritten l)) × ((ledger_after l (Write n)).last ≤ greatest)
 CanCome l Commit = l.position < l.reach.position
-CanCome l (Compact bucket) = (is_of l.force.number bucket ≡ true) × (in_bucket bucket l.entered ≢ [])
+CanCome l (Compact bucket) = (is_of_generation l.force.number bucket ≡ true) × (in_bucket bucket l.entered ≢ [])
 CanCome l (WriteCheckpoint user client) = last_number l user client < greatest
 CanCome l (Deploy rules) = (l.building ≡ None) × (l.begun < greatest) × AreRules rules × HaveNumbers rules.definitions
 CanCome l (Build n) = (1 ≤ n) × (n ≤ length (queue_in l.building)) × ((ledger_after l (Build n)).last ≤ greatest)
@@ -209,7 +209,7 @@ IsLegalFrom l [] = Unit {0}
 IsLegalFrom l (event ∷ events) = CanCome l event × IsLegalFrom (ledger_after l event) events
 
 abbrev pub IsLegal : RuleSet → List Event → Type 0
-IsLegal rules history = IsLegalFrom (fresh rules) history
+IsLegal rules history = IsLegalFrom (fresh_ledger rules) history
 
 -- ---- what a reader believes
 
@@ -219,5 +219,5 @@ reached_by at w [] = at
 reached_by at w (t ∷ ts) = if nat_le (length t.changes) w then reached_by t.position.0 (w - length t.changes) ts else at
 
 -- the greatest id of the changes of transactions up to a position
-abbrev pub op_at : ℕ → List Given → ℕ
-op_at p given = fold (λ op (g : Given). if nat_le g.position p then max op g.newest else op) 0 given
+abbrev pub op_at : ℕ → List GivenIds → ℕ
+op_at p given = fold (λ op (g : GivenIds). if nat_le g.position p then max op g.newest else op) 0 given

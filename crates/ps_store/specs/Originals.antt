@@ -70,8 +70,8 @@ key_of t = (t.change.table, t.change.id)
 abbrev pub after : Source → Timed → Source
 after source t = after_row t.position t.index (key_of t) t.change.row source
 
-abbrev pub row_of : Key → List Column → SourceRow
-row_of key columns = record { table = key.0; id = key.1; row = columns }
+abbrev pub keyed_row : Key → List Column → SourceRow
+keyed_row key columns = record { table = key.0; id = key.1; row = columns }
 
 abbrev pub columns_of : Option Version → Option (List Column)
 columns_of version = option_map (λ (v : Version). v.columns) version

@@ -20,8 +20,8 @@ pair_cmp a b = ordering_then (slice_cmp nat_cmp a.0 b.0) (slice_cmp nat_cmp a.1 
 abbrev pub place_cmp : Place → Place → Ordering
 place_cmp a b = ordering_then (pair_cmp a.0 b.0) (pair_cmp a.1 b.1)
 
-abbrev pub place_of : Placed → Place
-place_of entry = ((entry.bucket, entry.key.kind), (entry.key.id, entry.key.subkey))
+abbrev pub entry_place : Placed → Place
+entry_place entry = ((entry.bucket, entry.key.kind), (entry.key.id, entry.key.subkey))
 
 abbrev pub key_at : Place → Key
 key_at place = record { kind = place.0.1; id = place.1.0; subkey = place.1.1 }
@@ -48,4 +48,4 @@ removed_all next (place ∷ places) = removed_at next place ∷ removed_all (nex
 
 -- the set has the places of the entries
 abbrev pub HasPlaces : BTreeSet Place → List Placed → Type 0
-HasPlaces places entries = (entry : Placed) → contains place_cmp places (place_of entry) ≡ stays entries entry
+HasPlaces places entries = (entry : Placed) → contains place_cmp places (entry_place entry) ≡ stays entries entry

@@ -56,7 +56,7 @@ pub record PlanStands (rules : RuleSet) (rows : Rows) (changes : List Timed) (pl
   pub wrote : base.wrote ≡ base.last
 
 -- a change makes these entries over a ledger: those of its row as it stands, and those that it leaves, which are no more than a row may have
-pub record IsMade (limits : Limits) (l : Ledger) (t : Timed) (entries : ChangeEntries) : Type 0 where
+pub record MakesEntries (limits : Limits) (l : Ledger) (t : Timed) (entries : ChangeEntries) : Type 0 where
   pub before : entries.before ≡ standing_entries l.force.rules.definitions l.force.source (key_of t)
   pub after : entries.after ≡ entries_after l t
   pub narrow : length entries.after ≤ limits.entries

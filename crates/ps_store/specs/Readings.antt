@@ -34,15 +34,15 @@ with_mark number names = map (λ (name : List ℕ). mark_of number ++ name) name
 
 -- the buckets of an asker: those that the parameter vectors of the rules in force name over the source at the checkpoint's position, each
 -- once, in the order of their names' bytes, with the mark of the generation in force
-abbrev pub names_of : Ledger → Asker → List (List ℕ)
-names_of l asker = with_mark l.force.number (bucket_names l.force.rules.definitions asker (rows_in (source_at l.fed l.position)))
+abbrev pub asker_bucket_names : Ledger → Asker → List (List ℕ)
+asker_bucket_names l asker = with_mark l.force.number (bucket_names l.force.rules.definitions asker (rows_in (source_at l.fed l.position)))
 
 -- behind whatever mark, a bucket's name is of a vector of integers of signed 64 bits
 abbrev pub IsToldBehindMark : List ℕ → Type 0
 IsToldBehindMark name = (number : ℕ) (plain : List ℕ) → number ≤ greatest → name ≡ mark_of number ++ plain → IsTold plain
 
-abbrev pub AreTold : List (List ℕ) → Type 0
-AreTold names = AllByRecursion IsToldBehindMark names
+abbrev pub AreToldBehindMark : List (List ℕ) → Type 0
+AreToldBehindMark names = AllByRecursion IsToldBehindMark names
 
 -- a bucket: the sum, the count and the newest id of its log up to an op
 abbrev pub bucket_upto : ℕ → List ℕ → List Op → TakenBucket
@@ -69,7 +69,7 @@ take_of l asker = record {
   closed = l.closed;
   last_op = record { 0 = l.op };
   number = covered_of l asker;
-  buckets = map (λ (name : List ℕ). bucket_upto l.op name (l.log name)) (names_of l asker);
+  buckets = map (λ (name : List ℕ). bucket_upto l.op name (l.log name)) (asker_bucket_names l asker);
 }
 
 -- the names of what was taken
@@ -78,21 +78,21 @@ taken_names taken = map (λ (bucket : TakenBucket). bucket.name) taken.buckets
 
 -- a checkpoint was taken: that of the ledger, of at most as many buckets as the limit; their names rise, and each is of a vector of
 -- integers of signed 64 bits
-pub record IsTaken (limits : Limits) (l : Ledger) (asker : Asker) (taken : Taken) : Type 0 where
+pub record CheckpointIsTaken (limits : Limits) (l : Ledger) (asker : Asker) (taken : Taken) : Type 0 where
   pub value : taken ≡ take_of l asker
   pub few : length taken.buckets ≤ limits.buckets
   pub rise : IsStrictlySortedBy (slice_cmp nat_cmp) (taken_names taken)
-  pub told : AreTold (taken_names taken)
+  pub told : AreToldBehindMark (taken_names taken)
 
 -- there are more buckets than the limit
 pub record AreTooMany (limits : Limits) (l : Ledger) (asker : Asker) (count : ℕ) : Type 0 where
-  pub count_is : count ≡ length (names_of l asker)
+  pub count_is : count ≡ length (asker_bucket_names l asker)
   pub above : limits.buckets < count
 
-abbrev pub Takes : Fixed → List Event → Asker → Result Taken TakeFault → Type 0
-Takes fixed history asker (Ok taken) = IsTaken fixed.limits (ledger_of fixed.rules history) asker taken
-Takes fixed history asker (Err (TooManyBuckets count)) = AreTooMany fixed.limits (ledger_of fixed.rules history) asker count
-Takes fixed history asker (Err Memory) = Unit {0}
+abbrev pub TakesCheckpoint : Fixed → List Event → Asker → Result Taken TakeFault → Type 0
+TakesCheckpoint fixed history asker (Ok taken) = CheckpointIsTaken fixed.limits (ledger_of fixed.rules history) asker taken
+TakesCheckpoint fixed history asker (Err (TooManyBuckets count)) = AreTooMany fixed.limits (ledger_of fixed.rules history) asker count
+TakesCheckpoint fixed history asker (Err Memory) = Unit {0}
 
 -- ---- a batch of a bucket's operations
 

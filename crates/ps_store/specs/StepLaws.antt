@@ -13,14 +13,14 @@ use Rattle.ps_granted.specs.Latest.{rows_of}
 use Rattle.ps_granted.specs.Sources.{rows_in}
 use Rattle.ps_store.specs.Originals.{timed}
 use Rattle.ps_store.specs.Standing.{Holding, HoldsStanding}
-use Rattle.ps_store.specs.Steps.{Step, lane_ops, source_after, StepsRise, steps_upto, changes_of, held_of, in_lane}
+use Rattle.ps_store.specs.Steps.{Step, lane_ops, source_after, StepsRise, steps_upto, step_changes, holding_of, in_lane}
 use Rattle.ps_store.specs.Latest.{ShowsLatest}
 use Rattle.ps_store.specs.Laws.{Rises, HaveNumbers, AreSqlVectors, IsBucketOf}
 
 -- readers hold the entries of the rows that steps leave, and ids rise with moments
 abbrev pub ReadersHoldStepped : Type 0
 ReadersHoldStepped = (mark : List ℕ) (rules : RuleSet) (steps : List Step) → AreRules rules → HaveNumbers rules.definitions → StepsRise rules.definitions [] steps
-    → HoldsStanding rules.definitions (source_after [] steps) (in_lane mark (held_of (lane_ops mark rules.definitions [] steps)))
+    → HoldsStanding rules.definitions (source_after [] steps) (in_lane mark (holding_of (lane_ops mark rules.definitions [] steps)))
 
 -- a client holds what readers hold of an asker's buckets in a lane, and nothing else
 pub record HoldsLaneBuckets (mark : List ℕ) (definitions : List Definition) (asker : Asker) (rows : List SourceRow) (held kept : Holding) : Type 0 where
@@ -31,7 +31,7 @@ pub record HoldsLaneBuckets (mark : List ℕ) (definitions : List Definition) (a
 abbrev pub LatestRowsAreGranted : Type 0
 LatestRowsAreGranted = (mark : List ℕ) (rules : RuleSet) (steps : List Step) (asker : Asker) (kept : Holding) (rows : List Shown) → AreRules rules → HaveNumbers rules.definitions → StepsRise rules.definitions [] steps
     → AreSqlVectors rules.definitions asker (rows_in (source_after [] steps))
-    → HoldsLaneBuckets mark rules.definitions asker (rows_in (source_after [] steps)) (held_of (lane_ops mark rules.definitions [] steps)) kept
+    → HoldsLaneBuckets mark rules.definitions asker (rows_in (source_after [] steps)) (holding_of (lane_ops mark rules.definitions [] steps)) kept
     → ShowsLatest kept rows
     → rows ≡ rows_of (granted rules.definitions asker (source_after [] steps))
 
@@ -42,5 +42,5 @@ transactions_upto p transactions = filter (λ (t : Transaction). nat_le t.positi
 -- steps of the first changes of transactions, among them all of those up to a position, lead up to it to the source there
 abbrev pub StepsLeadToSources : Type 0
 StepsLeadToSources = (transactions : List Transaction) (steps : List Step) (written p : ℕ) → Rises 0 transactions
-    → changes_of steps ≡ take written (timed transactions) → length (timed (transactions_upto p transactions)) ≤ written
+    → step_changes steps ≡ take written (timed transactions) → length (timed (transactions_upto p transactions)) ≤ written
     → source_after [] (steps_upto p steps) ≡ source_at transactions p

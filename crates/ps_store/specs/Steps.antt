@@ -42,12 +42,12 @@ abbrev pub steps_upto : ℕ → List Step → List Step
 steps_upto p steps = filter (λ (s : Step). nat_le s.timed.position p) steps
 
 -- the changes of steps
-abbrev pub changes_of : List Step → List Timed
-changes_of steps = map (λ (s : Step). s.timed) steps
+abbrev pub step_changes : List Step → List Timed
+step_changes steps = map (λ (s : Step). s.timed) steps
 
 -- what the readers of all buckets hold that took these operations
-abbrev pub held_of : List Entered → Holding
-held_of entered bucket key = (bucket_of (in_bucket bucket entered)).held key
+abbrev pub holding_of : List Entered → Holding
+holding_of entered bucket key = (bucket_of (in_bucket bucket entered)).held key
 
 -- what is held in the buckets of a lane, by their names without the mark
 abbrev pub in_lane : List ℕ → Holding → Holding

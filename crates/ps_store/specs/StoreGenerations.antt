@@ -24,11 +24,11 @@ use Rattle.ps_store.specs.declared.plans.Made.{Made}
 use Rattle.ps_store.specs.declared.plans.Plan.{Plan}
 use Rattle.ps_store.specs.declared.rows.Rows.{Rows}
 use Rattle.ps_store.specs.declared.stores.Store.{Store}
-use Rattle.ps_store.specs.Generations.{mark_of, begins_with_digit, is_of, Coming, Ended, Ending, Switched, Abandoned, ending_of}
+use Rattle.ps_store.specs.Generations.{mark_of, begins_with_digit, is_of_generation, Coming, Ended, Ending, Switched, Abandoned, ending_of}
 use Rattle.ps_store.specs.Ledgers.{Ledger, head_of, unwritten}
 use Rattle.ps_store.specs.Originals.{Timed, standing_entries}
 use Rattle.ps_store.specs.Rows.{row_at}
-use Rattle.ps_store.specs.Steps.{marked, changes_of}
+use Rattle.ps_store.specs.Steps.{marked, step_changes}
 use Rattle.ps_store.specs.StoreLogs.{log_at}
 use Rattle.ps_store.specs.Tails.{Ascend, ids, notes_after}
 
@@ -89,7 +89,7 @@ by_of store = unwrap_or store.generations.by store.fixed
 
 -- the log of a bucket of a generation, none of any other
 abbrev pub log_in : ℕ → (List ℕ → List Op) → List ℕ → List Op
-log_in number log bucket = if is_of number bucket then log bucket else []
+log_in number log bucket = if is_of_generation number bucket then log bucket else []
 
 -- the log of a bucket whose generation did not end
 abbrev pub log_of : Ledger → List ℕ → List Op
@@ -117,7 +117,7 @@ pub record BuildingStands (built : Building) (coming : Coming) (log : List ℕ �
   pub rules : built.by.rules ≡ coming.lane.rules
   pub logs : (bucket : List ℕ) → log_at built.logs bucket ≡ log_in coming.lane.number log bucket
   pub rows : IsRowsOf built.rows coming.lane.source
-  pub index : IndexStandsFor built.index coming.lane.rules position (changes_of coming.lane.steps) (coming.queue ++ waiting) head
+  pub index : IndexStandsFor built.index coming.lane.rules position (step_changes coming.lane.steps) (coming.queue ++ waiting) head
   pub queue : built.queue.items ≡ coming.queue
   pub narrow : (key : Key) → length (standing_entries coming.lane.rules.definitions coming.lane.source key) ≤ built.by.limits.entries
 

@@ -14,15 +14,15 @@ use Rattle.ps_store.specs.Originals.{Entered, in_bucket}
 abbrev pub wanted : BTreeMap (List ℕ) ℕ → List ℕ → ℕ
 wanted rooms name = unwrap_or (get (slice_cmp nat_cmp) rooms name) 0
 
-abbrev pub ops_of : LogState → List Op
-ops_of log = log.ops
+abbrev pub log_ops : LogState → List Op
+log_ops log = log.ops
 
 abbrev pub spare_of : LogState → ℕ
 spare_of log = log.spare
 
 -- the operations of a bucket, none where it has no log
 abbrev pub log_at : Logs → List ℕ → List Op
-log_at logs bucket = option_map_or ops_of (get (slice_cmp nat_cmp) logs.logs bucket) []
+log_at logs bucket = option_map_or log_ops (get (slice_cmp nat_cmp) logs.logs bucket) []
 
 -- for how many more operations of a bucket there is room
 abbrev pub room_at : Logs → List ℕ → ℕ

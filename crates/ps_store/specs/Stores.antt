@@ -17,7 +17,7 @@ use Rattle.ps_store.specs.declared.faults.CompactFault.{CompactFault}
 use Rattle.ps_store.specs.declared.faults.CompactFault.TheVariants as compacting
 use Rattle.ps_write_cp.specs.declared.faults.NumberFault.{NumberFault}
 use Rattle.ps_write_cp.specs.declared.faults.NumberFault.TheVariants as numbering
-use Rattle.ps_write_cp.specs.Kept.{Kept, StandsFor}
+use Rattle.ps_write_cp.specs.Kept.{KeptNumbers, StandsFor}
 use Rattle.ps_write_cp.specs.Numbers.{Made}
 use Rattle.ps_store.specs.declared.faults.FeedFault.{FeedFault}
 use Rattle.ps_store.specs.declared.faults.FeedFault.TheVariants as feeding
@@ -55,7 +55,7 @@ abbrev pub IndexStands : Index → Ledger → Type 0
 IndexStands index l = IndexStandsFor index l.force.rules l.position (take l.written (timed l.fed)) (unwritten l) (head_of l.fed)
 
 -- the numbers are those of the write checkpoints that were made, under a greatest number, and none was made past the head
-pub record NumbersStand (top : ℕ) (kept : Kept) (made : List Made) (head : ℕ) : Type 0 where
+pub record NumbersStand (top : ℕ) (kept : KeptNumbers) (made : List Made) (head : ℕ) : Type 0 where
   pub made_are : StandsFor kept made
   pub top_is : kept.top ≡ top
   pub behind : kept.head ≤ head
@@ -79,7 +79,7 @@ pub record IsKept (limits : Limits) (l : Ledger) : Type 0 where
   pub last : l.last ≤ limits.ops
   pub narrow : (key : Key) → length (standing_entries l.force.rules.definitions l.force.source key) ≤ limits.entries
 
-pub record Stands (store : Store) (l : Ledger) : Type 0 where
+pub record StandsForLedger (store : Store) (l : Ledger) : Type 0 where
   pub rules : l.force.rules ≡ (by_of store).rules
   pub by_limits : (by_of store).limits ≡ store.fixed.limits
   pub logs : (bucket : List ℕ) → log_at store.logs bucket ≡ log_in l.force.number l.log bucket
@@ -106,7 +106,7 @@ pub record StoreStandsFor (fixed : Fixed) (store : Store) (history : List Event)
   pub rules : AreRules fixed.rules
   pub query_numbers : HaveNumbers fixed.rules.definitions
   pub legal : IsLegal fixed.rules history
-  pub stands : Stands store (ledger_of fixed.rules history)
+  pub stands : StandsForLedger store (ledger_of fixed.rules history)
 
 -- ---- within a call
 
@@ -195,27 +195,27 @@ Uploads fixed history changes new (Err feeding.Memory) =
     ((ledger_of fixed.rules history).closed ≡ false) × (head_of (ledger_of fixed.rules history).fed < fixed.limits.positions) × StoreStandsFor fixed new history
 
 -- why no change is written
-abbrev pub IsRefused : Limits → Ledger → WriteFault → Type 0
-IsRefused limits l writing.NothingToWrite = unwritten l ≡ []
-IsRefused limits l (writing.TooWide table id count) =
+abbrev pub WriteIsRefused : Limits → Ledger → WriteFault → Type 0
+WriteIsRefused limits l writing.NothingToWrite = unwritten l ≡ []
+WriteIsRefused limits l (writing.TooWide table id count) =
     (t : Timed) × (ts : List Timed) × (unwritten l ≡ t ∷ ts) × (limits.entries < length (entries_after l t))
     × (t.change.table ≡ table) × (t.change.id ≡ id) × (count ≡ limits.entries + 1)
-IsRefused limits l (writing.OpsFull last) =
+WriteIsRefused limits l (writing.OpsFull last) =
     (t : Timed) × (ts : List Timed) × (unwritten l ≡ t ∷ ts) × (length (entries_after l t) ≤ limits.entries)
     × (limits.ops < l.last + length (next_ops l t)) × (last.0 ≡ l.last)
-IsRefused limits l writing.Memory = unwritten l ≢ []
+WriteIsRefused limits l writing.Memory = unwritten l ≢ []
 
 -- the longest run of next changes that can be written, at most so many
 abbrev pub next_run : Fixed → List Event → ℕ → Run
 next_run fixed history limit = run_from fixed.limits (ledger_of fixed.rules history) 0 (take limit (unwritten (ledger_of fixed.rules history)))
 
 -- that run was written, or why nothing was
-abbrev pub Writes : Fixed → List Event → ℕ → Store → Result Wrote WriteFault → Type 0
-Writes fixed history limit new (Ok wrote) =
+abbrev pub WritesRun : Fixed → List Event → ℕ → Store → Result Wrote WriteFault → Type 0
+WritesRun fixed history limit new (Ok wrote) =
     (1 ≤ wrote.changes) × (wrote.changes ≡ (next_run fixed history limit).count)
     × (wrote.last_op.0 ≡ (ledger_of fixed.rules (history ++ Write wrote.changes ∷ [])).last) × ((ledger_of fixed.rules history).last + wrote.ops ≡ wrote.last_op.0)
     × StoreStandsFor fixed new (history ++ Write wrote.changes ∷ [])
-Writes fixed history limit new (Err fault) = IsRefused fixed.limits (ledger_of fixed.rules history) fault × StoreStandsFor fixed new history
+WritesRun fixed history limit new (Err fault) = WriteIsRefused fixed.limits (ledger_of fixed.rules history) fault × StoreStandsFor fixed new history
 
 -- the log of a bucket was compacted at the checkpoint's op, or why it was not: it is no bucket of the generation in force that has an operation
 abbrev pub Compacts : Fixed → List Event → List ℕ → Store → Result Report CompactFault → Type 0

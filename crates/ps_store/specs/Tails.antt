@@ -19,9 +19,9 @@ abbrev pub repeated : ℕ → ℕ → List ℕ → List ℕ
 repeated zero p rest = rest
 repeated (suc n) p rest = p ∷ repeated n p rest
 
-abbrev pub positions_of : List End → List ℕ
-positions_of [] = []
-positions_of (e ∷ es) = repeated e.changes e.position.0 (positions_of es)
+abbrev pub end_positions : List End → List ℕ
+end_positions [] = []
+end_positions (e ∷ es) = repeated e.changes e.position.0 (end_positions es)
 
 abbrev pub timed_positions : List Timed → List ℕ
 timed_positions ts = map (λ (t : Timed). t.position) ts
@@ -33,7 +33,7 @@ IsSettled over (e ∷ es) = over < e.changes
 
 -- the changes are those of the transactions that are left
 pub record Tied (changes : List Timed) (r : Reached) : Type 0 where
-  pub positions : timed_positions changes ≡ drop r.over (positions_of r.left)
+  pub positions : timed_positions changes ≡ drop r.over (end_positions r.left)
   pub settled : IsSettled r.over r.left
 
 -- positions do not fall, from p on

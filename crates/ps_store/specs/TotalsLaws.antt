@@ -8,17 +8,17 @@ use Rattle.ps_bucket_log.specs.Ops.{sum_of}
 use Rattle.ps_definitions.specs.RuleSets.{RuleSet}
 use Rattle.ps_store.specs.declared.events.Event.{Event}
 use Rattle.ps_store.specs.declared.events.Event.TheVariants.{Compact, Switch, Abandon}
-use Rattle.ps_store.specs.Generations.{is_of}
+use Rattle.ps_store.specs.Generations.{is_of_generation}
 use Rattle.ps_store.specs.Histories.{written_in, has_deploy}
 use Rattle.ps_store.specs.Ledgers.{ledger_of, IsLegal}
 use Rattle.ps_store.specs.LedgerLaws.{fed_in, original_in}
 use Rattle.ps_store.specs.Originals.{Entered, timed, ops_from}
-use Rattle.ps_store.specs.Totals.{ops_of, totals_of, bucket_names_of}
+use Rattle.ps_store.specs.Totals.{entered_ops, totals_of, bucket_names_of}
 
 -- the names are those of the buckets of the generation in force that have an original operation, in byte order
 pub record AreBucketNames (rules : RuleSet) (history : List Event) (names : List (List ℕ)) : Type 0 where
   pub in_order : IsStrictlySortedBy (slice_cmp nat_cmp) names
-  pub exactly : (bucket : List ℕ) → IsTrue (list_any (bytes_eq bucket) names) ↔ ((is_of (ledger_of rules history).force.number bucket ≡ true) × (original_in rules history bucket ≢ []))
+  pub exactly : (bucket : List ℕ) → IsTrue (list_any (bytes_eq bucket) names) ↔ ((is_of_generation (ledger_of rules history).force.number bucket ≡ true) × (original_in rules history bucket ≢ []))
 
 abbrev pub BucketNamesTell : Type 0
 BucketNamesTell = (rules : RuleSet) (history : List Event) → AreBucketNames rules history (bucket_names_of (ledger_of rules history))
@@ -38,7 +38,7 @@ written_ops rules history = ops_from rules.definitions [] 1 (take (written_in hi
 -- of these operations their number, and their sum
 pub record TellsWritten (rules : RuleSet) (history : List Event) : Type 0 where
   pub operations : (totals_of (ledger_of rules history)).operations ≡ length (written_ops rules history)
-  pub sum : (totals_of (ledger_of rules history)).sum.0 ≡ sum_of (ops_of (written_ops rules history))
+  pub sum : (totals_of (ledger_of rules history)).sum.0 ≡ sum_of (entered_ops (written_ops rules history))
 
 abbrev pub WrittenTell : Type 0
 WrittenTell = (rules : RuleSet) (history : List Event) → IsLegal rules history → has_deploy history ≡ false → TellsWritten rules history

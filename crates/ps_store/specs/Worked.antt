@@ -11,7 +11,7 @@ use Rattle.ps_granted.specs.Latest.{due}
 use Rattle.ps_store.specs.declared.events.Event.{Event}
 use Rattle.ps_store.specs.declared.events.Event.TheVariants.{Feed, Write, Commit, Deploy, Build, Switch, Abandon}
 use Rattle.ps_store.specs.Generations.{queue_in}
-use Rattle.ps_store.specs.Ledgers.{Ledger, fresh, ledger_of, CanCome}
+use Rattle.ps_store.specs.Ledgers.{Ledger, fresh_ledger, ledger_of, CanCome}
 use Rattle.ps_store.specs.Readings.{take_of, taken_names, batch_of}
 use Rattle.ps_store.specs.Totals.{bucket_names_of, totals_of}
 
@@ -94,8 +94,8 @@ pub record TakesOver (asker : Asker) : Type 0 where
 
 -- without new rules nothing is switched or dropped, and while a generation is being built no other begins
 pub record WaitsItsTurn (rules : RuleSet) : Type 0 where
-  pub none_to_switch : CanCome (fresh rules) Switch → ⊥
-  pub none_to_drop : CanCome (fresh rules) Abandon → ⊥
+  pub none_to_switch : CanCome (fresh_ledger rules) Switch → ⊥
+  pub none_to_drop : CanCome (fresh_ledger rules) Abandon → ⊥
   pub not_twice : CanCome (ledger_by deployed) (Deploy rules) → ⊥
   pub not_early : CanCome (ledger_by committed) Switch → ⊥
 

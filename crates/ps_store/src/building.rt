@@ -2,7 +2,7 @@
 
 ghost use Rattle.std.specs.Prelude.{◌≡◌, ◌≤◌, ◌<◌, [], List, ℕ, None, IsSome, IfOk, OnOk, length, take};
 ghost use Rattle.ps_rows.specs.Source.{Key as KeySeen, Source as SourceSeen};
-ghost use Rattle.ps_store.specs.Deploys.{Grows, IsBuilt, IsCounted, IsNamedOf, IsTaken, IsWideAt};
+ghost use Rattle.ps_store.specs.Deploys.{Grows, IsBuilt, BatchIsCounted, IsNamedOf, PlanIsTaken, IsWideAt};
 ghost use Rattle.ps_store.specs.Generations.{mark_of, queue_of, Coming};
 ghost use Rattle.ps_store.specs.Ledgers.{Ledger};
 ghost use Rattle.ps_store.specs.Limits.{AreWithin};
@@ -180,8 +180,8 @@ impl Building {
         requires rows_are { AreRowsOf self.old.index.rules.definitions plan.made.items self.old.queue.items }
         requires notes { length plan.made.items ≤ self.old.index.spare }
         requires rise { NotFalling self.old.index.last self.old.queue.items }
-        ensures built { IsTaken self.old plan self.new }
-        ensures batched { IsCounted self.old plan result }
+        ensures built { PlanIsTaken self.old plan self.new }
+        ensures batched { BatchIsCounted self.old plan result }
     {
         let last = plan.last();
         let (seen, entered, made) = plan.into_parts();

@@ -11,18 +11,7 @@ ghost use Rattle.ps_store.specs.LogLaws.{LogsStand, ReadersComeThrough};
 ghost use Rattle.ps_store.specs.LongestRuns.{RunsAreLongest};
 ghost use Rattle.ps_store.specs.Worked.{GenerationsTakeOver};
 
-use ps_bucket_eval::entries_stand_where_conditions_hold;
-use ps_bucket_log::{
-    batches_are_the_log, batches_keep_readers_honest, honest_readers_stay_honest,
-    readers_are_whole_at_the_newest, standing_logs_have_the_sums_of_their_originals,
-    standing_logs_stay_standing, totals_are_sums, what_is_written_later_adds_nothing,
-};
-use ps_compact::compacted_logs_stand;
-use ps_definitions::names_are_distinct;
-use ps_granted::latest_rows_are_unique;
-use ps_params::notes_of_changes_are_the_source;
 use ps_queries::same_for_every_asker;
-use ps_write_cp::{covered_is_the_greatest, covers_all_before};
 
 /// A law: what the readers of a lane's buckets hold, once they took the original operations of its steps, is the entries of
 /// the rows that the steps leave, and the ids of their PUTs rise with the moments of the rows and then with the queries'
@@ -30,7 +19,7 @@ use ps_write_cp::{covered_is_the_greatest, covers_all_before};
 pub fn readers_hold_what_steps_leave()
     ensures { ReadersHoldStepped }
 {
-    entries_stand_where_conditions_hold();
+    ps_bucket_eval::laws::entries_stand_where_conditions_hold();
 }
 
 /// A law: a client that holds what the readers of an asker's buckets in a lane hold, and nothing else, shows the rows that are
@@ -39,10 +28,10 @@ pub fn latest_rows_are_granted()
     ensures { LatestRowsAreGranted }
 {
     readers_hold_what_steps_leave();
-    names_are_distinct();
-    entries_stand_where_conditions_hold();
+    ps_definitions::laws::names_are_distinct();
+    ps_bucket_eval::laws::entries_stand_where_conditions_hold();
     same_for_every_asker();
-    latest_rows_are_unique();
+    ps_granted::laws::latest_rows_are_unique();
 }
 
 /// A law: steps of the first changes of transactions, among them all changes up to a position, lead up to that position to the
@@ -128,8 +117,8 @@ pub fn totals_tell_histories()
 pub fn logs_stand_for_originals()
     ensures { LogsStand }
 {
-    standing_logs_stay_standing();
-    compacted_logs_stand();
+    ps_bucket_log::laws::standing_logs_stay_standing();
+    ps_compact::laws::compacted_logs_stand();
 }
 
 /// A law: wherever an honest reader of a bucket stands, whatever was compacted and whatever generation ended, a batch that does not
@@ -139,9 +128,9 @@ pub fn readers_come_through()
     ensures { ReadersComeThrough }
 {
     logs_stand_for_originals();
-    batches_keep_readers_honest();
-    readers_are_whole_at_the_newest();
-    batches_are_the_log();
+    ps_bucket_log::laws::batches_keep_readers_honest();
+    ps_bucket_log::laws::readers_are_whole_at_the_newest();
+    ps_bucket_log::laws::batches_are_the_log();
 }
 
 /// A law: what readers hold that took all original operations up to a checkpoint's op is the entries of the rows that stand in
@@ -168,18 +157,18 @@ pub fn committed_rows_are_due()
 pub fn courses_are_lawful()
     ensures { CoursesAreLawful }
 {
-    batches_keep_readers_honest();
-    readers_are_whole_at_the_newest();
-    honest_readers_stay_honest();
-    standing_logs_stay_standing();
-    standing_logs_have_the_sums_of_their_originals();
-    totals_are_sums();
-    batches_are_the_log();
-    what_is_written_later_adds_nothing();
-    compacted_logs_stand();
+    ps_bucket_log::laws::batches_keep_readers_honest();
+    ps_bucket_log::laws::readers_are_whole_at_the_newest();
+    ps_bucket_log::laws::honest_readers_stay_honest();
+    ps_bucket_log::laws::standing_logs_stay_standing();
+    ps_bucket_log::laws::standing_logs_have_the_sums_of_their_originals();
+    ps_bucket_log::laws::totals_are_sums();
+    ps_bucket_log::laws::batches_are_the_log();
+    ps_bucket_log::laws::what_is_written_later_adds_nothing();
+    ps_compact::laws::compacted_logs_stand();
     committed_rows_are_due();
-    covered_is_the_greatest();
-    covers_all_before();
+    ps_write_cp::laws::covered_is_the_greatest();
+    ps_write_cp::laws::covers_all_before();
 }
 
 /// A law: what comes later in a history changes nothing that is read at a place before it; and what is read at its end is that
@@ -196,7 +185,7 @@ pub fn indexes_give_buckets()
     ensures force { IndexesGiveBuckets }
     ensures built { IndexesGiveBuilt }
 {
-    notes_of_changes_are_the_source();
+    ps_params::laws::notes_of_changes_are_the_source();
 }
 
 /// A law: what was fed before a write checkpoint of a client is within the position of each checkpoint that covers its number.
@@ -206,10 +195,10 @@ pub fn uploads_are_covered()
     ensures low { CoveredNumbersAreLow }
     ensures fed { UploadsAreFed }
 {
-    standing_logs_stay_standing();
-    compacted_logs_stand();
-    covered_is_the_greatest();
-    covers_all_before();
+    ps_bucket_log::laws::standing_logs_stay_standing();
+    ps_compact::laws::compacted_logs_stand();
+    ps_write_cp::laws::covered_is_the_greatest();
+    ps_write_cp::laws::covers_all_before();
 }
 
 /// A law, by example: new rules come while two rows stand and a third change is written; the new generation is built in two batches

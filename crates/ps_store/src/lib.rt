@@ -11,7 +11,7 @@ mod fixed;
 mod generations;
 mod kept;
 mod lasts;
-mod laws;
+pub mod laws;
 mod logs;
 mod marking;
 mod numbers;
@@ -32,14 +32,6 @@ pub use entered::Entered;
 pub use events::Event;
 pub use faults::{CompactFault, FeedFault, NothingToCommit, WriteFault};
 pub use fixed::{Fixed, Limits};
-pub use laws::{
-    committed_rows_are_due, courses_are_lawful, generations_take_over, generations_tell,
-    indexes_give_buckets, latest_rows_are_due, latest_rows_are_granted, ledgers_tell_events,
-    ledgers_tell_histories, ledgers_tell_ops, ledgers_tell_reach, logs_stand_for_originals,
-    places_are_fronts, readers_come_through, readers_hold_what_is_committed,
-    readers_hold_what_stands, readers_hold_what_steps_leave, runs_are_the_longest,
-    steps_lead_to_sources, totals_tell_histories, uploads_are_covered,
-};
 pub use numbers::have_numbers;
 pub use ps_bucket_log::{Batch, Taken, TakenBucket};
 pub use readings::TakeFault;

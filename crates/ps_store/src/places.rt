@@ -3,7 +3,7 @@
 ghost use Rattle.std.specs.Prelude.{◌≡◌, IfOk, map};
 ghost use Rattle.std.specs.BTreeSet.{contains};
 ghost use Rattle.ps_store.specs.Originals.{is_placed};
-ghost use Rattle.ps_store.specs.Places.{place_of as place_of_entry, place_cmp, entry_at, is_taken, HasPlaces};
+ghost use Rattle.ps_store.specs.Places.{entry_place as place_of_entry, place_cmp, entry_at, is_taken, HasPlaces};
 
 use ps_bucket_eval::Placed;
 use ps_bucket_log::Key;

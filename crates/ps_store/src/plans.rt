@@ -9,7 +9,7 @@ ghost use Rattle.ps_store.specs.Limits.{AreWithin};
 ghost use Rattle.ps_store.specs.Noting.{row_noted};
 ghost use Rattle.ps_store.specs.Originals.{Timed, columns_of, key_of, put, numbered};
 ghost use Rattle.ps_store.specs.Places.{places_left, removed_all};
-ghost use Rattle.ps_store.specs.Plans.{PlanStands, IsStart, IsRun, IsMade, with_change, row_left, row_seen};
+ghost use Rattle.ps_store.specs.Plans.{PlanStands, IsStart, IsRun, MakesEntries, with_change, row_left, row_seen};
 ghost use Rattle.ps_store.specs.Rows.{row_at};
 ghost use Rattle.ps_store.specs.Runs.{refusal_of, run_from};
 ghost use Rattle.ps_store.specs.declared.rows.Rows.{Rows as RowsSeen};
@@ -281,7 +281,7 @@ impl Plan {
         ensures { IfOk result (λ refusal. (rows : RowsSeen) (changes : List Timed) (base : Ledger) (ts : List Timed)
             → PlanStands fixed.now.rules rows changes self.old base ts
             → slice_get changes (length ts) ≡ Some waiting.now
-            → IsMade fixed.now.limits (fold write_next base ts) waiting.now entries
+            → MakesEntries fixed.now.limits (fold write_next base ts) waiting.now entries
             → (refusal ≡ refusal_of fixed.now.limits (fold write_next base ts) waiting.now)
             × PlanStands fixed.now.rules rows changes self.new base (with_change refusal ts waiting.now)) }
     {

@@ -10,20 +10,20 @@ ghost use Rattle.ps_store.specs.declared.fixed.Fixed.{Fixed as FixedSeen};
 ghost use Rattle.ps_store.specs.Costs.{TakesFew, ReadsFew};
 ghost use Rattle.ps_store.specs.Ledgers.{ledger_of, head_of};
 ghost use Rattle.ps_store.specs.Limits.{greatest, AreWithin};
-ghost use Rattle.ps_store.specs.Readings.{Takes, batch_in, batch_of, covered_of, log_length_of, nothing_read};
+ghost use Rattle.ps_store.specs.Readings.{TakesCheckpoint, batch_in, batch_of, covered_of, log_length_of, nothing_read};
 ghost use Rattle.ps_store.specs.StoreLogs.{HasRoom, Continue, AreRising, log_at};
 ghost use Rattle.ps_store.specs.Rows.{row_at};
 ghost use Rattle.ps_store.specs.Reach.{reached};
 ghost use Rattle.ps_store.specs.Tails.{Tied, HasPlaces, NotFalling, AreRowsOf};
 ghost use Rattle.ps_store.specs.Totals.{totals_of, bucket_names_of, HaveRoom};
-ghost use Rattle.ps_store.specs.Stores.{StoreStandsFor, Writes, Feeds, Commits, Compacts, IsSame, IsFilled, IsTooWide, IsNamed, Uploads, MakesNumber};
+ghost use Rattle.ps_store.specs.Stores.{StoreStandsFor, WritesRun, Feeds, Commits, Compacts, IsSame, IsFilled, IsTooWide, IsNamed, Uploads, MakesNumber};
 ghost use Rattle.ps_store.specs.StoreGenerations.{by_of, ending_from, log_of, FitsQueue, IsCopyOf, IsMarked};
 
 use crate::faults::{CompactFault, FeedFault, NothingToCommit, WriteFault};
 use crate::fixed::{Limits, Shared};
 use crate::generations::{Ending, Generations};
 use crate::lasts::keep_writes;
-use crate::laws::logs_stand_for_originals;
+use crate::laws;
 use crate::logs::Logs;
 use crate::marking::{has_mark, mark_buckets, with_mark};
 use crate::numbers::have_numbers;
@@ -34,14 +34,11 @@ use crate::rows::{Rows, make_places};
 use crate::tails::{Tail, advance};
 use crate::totals::{Totals, sum_of};
 use crate::waiting::Waiting;
-use ps_bucket_log::{
-    Batch, Steps, Taken, standing_logs_have_the_sums_of_their_originals,
-    standing_logs_stay_standing,
-};
+use ps_bucket_log::{Batch, Steps, Taken};
 use ps_compact::Report;
 use ps_data::{Items, Memory, OpId, Position, Text};
 use ps_definitions::Rules;
-use ps_params::{ParameterIndex, notes_of_changes_are_the_source};
+use ps_params::ParameterIndex;
 use ps_rows::{Change, Transaction};
 use ps_sql_eval::Asker;
 use ps_write_cp::{NumberFault, WriteCheckpoints};
@@ -305,7 +302,7 @@ impl Store {
         requires some { 1 ≤ limit }
         requires limit { limit ≤ 1000000 }
         requires stands { (fixed : FixedSeen) × (history : List EventSeen) × StoreStandsFor fixed self.old history }
-        ensures { (fixed : FixedSeen) (history : List EventSeen) → StoreStandsFor fixed self.old history → Writes fixed history limit self.new result }
+        ensures { (fixed : FixedSeen) (history : List EventSeen) → StoreStandsFor fixed self.old history → WritesRun fixed history limit self.new result }
     {
         if self.tail.changes.is_empty() {
             return Err(WriteFault::NothingToWrite);
@@ -367,9 +364,9 @@ impl Store {
         if self.logs.count_upto(bucket, self.last) == 0 {
             return Err(CompactFault::NoBucket);
         }
-        logs_stand_for_originals();
-        standing_logs_stay_standing();
-        standing_logs_have_the_sums_of_their_originals();
+        laws::logs_stand_for_originals();
+        ps_bucket_log::laws::standing_logs_stay_standing();
+        ps_bucket_log::laws::standing_logs_have_the_sums_of_their_originals();
         let report = self.logs.compact(alloc, bucket, self.checkpoint.op)?;
         Ok(report)
     }
@@ -399,11 +396,11 @@ impl Store {
         steps: &mut Steps<L>,
     ) -> Result<Taken, TakeFault>
         requires { (fixed : FixedSeen) × (history : List EventSeen) × StoreStandsFor fixed self.now history }
-        ensures takes { (fixed : FixedSeen) (history : List EventSeen) → StoreStandsFor fixed self.now history → Takes fixed history asker.now result }
+        ensures takes { (fixed : FixedSeen) (history : List EventSeen) → StoreStandsFor fixed self.now history → TakesCheckpoint fixed history asker.now result }
         ensures cost { (fixed : FixedSeen) (history : List EventSeen) → StoreStandsFor fixed self.now history
             → TakesFew (ledger_of fixed.rules history) asker.now steps.old steps.new }
     {
-        notes_of_changes_are_the_source();
+        ps_params::laws::notes_of_changes_are_the_source();
         let names = self
             .index
             .rows_for(alloc, self.by().rules(), asker, self.checkpoint.position)?;

@@ -3,7 +3,7 @@
 ghost use Rattle.std.specs.Prelude.{◌≡◌, ◌+◌, ◌^◌, ◌≤◌, ◌<◌};
 ghost use Rattle.ps_checksum.specs.Sums.{add_sums};
 ghost use Rattle.ps_bucket_log.specs.Ops.{sum_of as sum_of_ops};
-ghost use Rattle.ps_store.specs.Totals.{ops_of, with_transaction, HaveRoom};
+ghost use Rattle.ps_store.specs.Totals.{entered_ops, with_transaction, HaveRoom};
 
 use crate::entered::Entered;
 use ps_checksum::{Sum, add};
@@ -66,7 +66,7 @@ impl Totals {
 /// The sum of the checksums of operations, modulo 2^32.
 #[tactic(auto, using(crate::proofs::Counting::sum_more))]
 pub(crate) fn sum_of(entered: &[Entered]) -> Sum
-    ensures { result.0 ≡ sum_of_ops (ops_of entered.now) }
+    ensures { result.0 ≡ sum_of_ops (entered_ops entered.now) }
 {
     let mut sum = Sum(0);
     'entered: for e in entered {

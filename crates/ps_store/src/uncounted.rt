@@ -4,7 +4,7 @@ ghost use Rattle.std.specs.Prelude.{◌≡◌, ◌<◌, List, IfOk};
 ghost use Rattle.ps_store.specs.declared.events.Event.{Event as EventSeen};
 ghost use Rattle.ps_store.specs.declared.fixed.Fixed.{Fixed as FixedSeen};
 ghost use Rattle.ps_store.specs.Ledgers.{ledger_of};
-ghost use Rattle.ps_store.specs.Readings.{Takes, batch_of};
+ghost use Rattle.ps_store.specs.Readings.{TakesCheckpoint, batch_of};
 ghost use Rattle.ps_store.specs.Stores.{StoreStandsFor};
 
 use crate::readings::TakeFault;
@@ -27,7 +27,7 @@ impl Store {
         requires parts { blank.parts ≡ L.parts }
         requires some { 0 < blank.parts }
         requires stands { (fixed : FixedSeen) × (history : List EventSeen) × StoreStandsFor fixed self.now history }
-        ensures { (fixed : FixedSeen) (history : List EventSeen) → StoreStandsFor fixed self.now history → Takes fixed history asker.now result }
+        ensures { (fixed : FixedSeen) (history : List EventSeen) → StoreStandsFor fixed self.now history → TakesCheckpoint fixed history asker.now result }
     {
         let mut steps = Steps::<L>::new(blank);
         self.take(alloc, asker, &mut steps)
@@ -54,7 +54,7 @@ impl Store {
     /// `Store::take`, with steps that nobody counts.
     pub fn take_uncounted(&self, alloc: Global, asker: &Asker) -> Result<Taken, TakeFault>
         requires { (fixed : FixedSeen) × (history : List EventSeen) × StoreStandsFor fixed self.now history }
-        ensures { (fixed : FixedSeen) (history : List EventSeen) → StoreStandsFor fixed self.now history → Takes fixed history asker.now result }
+        ensures { (fixed : FixedSeen) (history : List EventSeen) → StoreStandsFor fixed self.now history → TakesCheckpoint fixed history asker.now result }
     {
         self.take_in::<Brand>(alloc, asker, Blank::new(1))
     }

@@ -17,7 +17,7 @@ use Rattle.ps_client.specs.declared.events.Event.TheVariants.{Nothing, Applied, 
 use Rattle.ps_client.specs.declared.faults.ClientFault.{ClientFault}
 use Rattle.ps_client.specs.declared.faults.ClientFault.TheVariants.{OutOfOrder, BadLine, KeeperFault, QueueEmpty, QueueWaiting, Memory}
 use Rattle.ps_client.specs.Clients.{PlainClient, Took, taken}
-use Rattle.ps_client.specs.Taking.{Shows, Answers}
+use Rattle.ps_client.specs.Taking.{Shows, AnswersLine}
 use Rattle.ps_bucket_log.specs.declared.takes.Taken.{Taken}
 use Rattle.ps_bucket_log.specs.declared.takes.TakenBucket.{TakenBucket}
 use Rattle.ps_store.specs.Courses.{Course}
@@ -25,11 +25,11 @@ use Rattle.ps_store.specs.CourseLaws.{IsLawful}
 use Rattle.ps_session.specs.declared.actions.Action.TheVariants.{Read, Complete}
 use Rattle.ps_session.specs.declared.phases.Phase.{Phase}
 use Rattle.ps_session.specs.declared.phases.Phase.TheVariants.{Start, Download, Void, Done}
-use Rattle.ps_session.specs.Takes.{name_of, is_unchanged}
+use Rattle.ps_session.specs.Takes.{taken_name, is_unchanged}
 use Rattle.ps_session.specs.Sessions.{SessionState, IsTaking, action_in, download_action, next_action, behind, took, took_in, read, read_in, read_of, finished, known_in, requested_in}
 use Rattle.ps_streams.specs.Runs.{batch_at, download, turn_in, at_after, IsToldAt, IsToldIn}
 use Rattle.ps_streams.specs.Headline.{Local, IsGood, IsGoodEvent, with_local}
-use Rattle.ps_streams.specs.Calls.{TakesAreTurns, ReadsAreTurns, FinishesAreTurns, BeginsUntaken, TurnsKeepTaken, ReadsGiveSomething, IsRight, IsRightEvent, RequestsAskOn, AnswersAreRight, AnswersLead}
+use Rattle.ps_streams.specs.Calls.{TakesAreTurns, ReadsAreTurns, FinishesAreTurns, BeginsUntaken, TurnsKeepTaken, ReadsGiveSomething, IsRightAnswer, IsRightEvent, RequestsAskOn, AnswersAreRight, AnswersLead}
 use Rattle.ps_streams.proofs.ToldTables.{first_behind-at, same_name}
 
 -- ---- a session's calls
@@ -57,10 +57,10 @@ pub record IsReadOf (session : SessionState) (after upto : OpId) (name : List �
   pub upto_is : session.last.last_op.0 ≡ upto.0
 
 pub read_of_bucket : (session : SessionState) (place : ℕ) (after upto : OpId) (name : List ℕ) → next_action session ≡ Read place after upto
-    → option_map name_of (behind session) ≡ Some name → (bucket : TakenBucket) × IsReadOf session after upto name bucket
+    → option_map taken_name (behind session) ≡ Some name → (bucket : TakenBucket) × IsReadOf session after upto name bucket
 read_of_bucket session place after upto name action named = by session.phase refl action
   where
-    at_bucket : (o : Option TakenBucket) → session.phase ≡ Download → behind session ≡ o → option_map name_of o ≡ Some name
+    at_bucket : (o : Option TakenBucket) → session.phase ≡ Download → behind session ≡ o → option_map taken_name o ≡ Some name
         → download_action o session ≡ Read place after upto → (bucket : TakenBucket) × IsReadOf session after upto name bucket
     at_bucket None phase is there asked = cc
     at_bucket (Some bucket) phase is there asked =
@@ -187,7 +187,7 @@ right_event course at old new (Refused buckets) good shows = absurd good
 right_event course at old new (Expiring seconds) good shows = tt
 
 right : (course : Course) (at : ℕ) (took : Took) (old new : PlainClient) (result : Result Event ClientFault) → IsGood course at old.kept took.answer
-    → Answers took old new result → IsRight course at old new result
+    → AnswersLine took old new result → IsRightAnswer course at old new result
 right course at took old new (Ok event) good answers =
     let here : IsGoodEvent course at old.kept event = rw answers.answer at good in
     right_event course at old new event here answers.shown
@@ -202,7 +202,7 @@ pub answers_are_right : AnswersAreRight
 answers_are_right course at line bytes old new result good is answers =
     right course at (taken old _) old new result good (rw is at answers)
 
-leads_to : (took : Took) (old new : PlainClient) (result : Result Event ClientFault) → Answers took old new result
+leads_to : (took : Took) (old new : PlainClient) (result : Result Event ClientFault) → AnswersLine took old new result
     → OnOk result ((local : Local) × (new ≡ with_local local took.client))
 leads_to took old new (Ok event) answers =
     (record { queue = took.client.kept.queue; target = took.client.kept.target; shown = new.kept.shown }, answers.client)

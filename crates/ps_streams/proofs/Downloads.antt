@@ -11,18 +11,18 @@ use Rattle.ps_bucket_log.specs.Logs.{IsRising}
 use Rattle.ps_bucket_log.specs.declared.takes.Taken.{Taken}
 use Rattle.ps_bucket_log.specs.declared.takes.TakenBucket.{TakenBucket}
 use Rattle.ps_session.specs.declared.phases.Phase.TheVariants.{Start, Download}
-use Rattle.ps_streams.specs.Downloads.{left_of, SendsOn, ReadsSendOn}
+use Rattle.ps_streams.specs.Downloads.{left_in_buckets, SendsOn, ReadsSendOn}
 use Rattle.ps_session.specs.Sessions.{SessionState, first_behind, behind, read_in, read_of, phase_after, with_place}
 use Rattle.ps_streams.proofs.Calls.{read_of_bucket, reads_give_something}
 
 -- ---- sums
 
-left_not_more : (buckets : List TakenBucket) (before now : List ℕ → ℕ) → ((name : List ℕ) → before name ≤ now name) → left_of buckets now ≤ left_of buckets before
+left_not_more : (buckets : List TakenBucket) (before now : List ℕ → ℕ) → ((name : List ℕ) → before name ≤ now name) → left_in_buckets buckets now ≤ left_in_buckets buckets before
 left_not_more [] before now grow = omega arith
 left_not_more (b ∷ bs) before now grow = omega (arith, left_not_more bs before now grow, grow b.name)
 
 left_falls : (buckets : List TakenBucket) (before now : List ℕ → ℕ) (bucket : TakenBucket) → ((name : List ℕ) → before name ≤ now name)
-    → first_behind before buckets ≡ Some bucket → before bucket.name < now bucket.name → left_of buckets now < left_of buckets before
+    → first_behind before buckets ≡ Some bucket → before bucket.name < now bucket.name → left_in_buckets buckets now < left_in_buckets buckets before
 left_falls [] before now bucket grow is more = cc
 left_falls (b ∷ bs) before now bucket grow is more = elim (cases_Bool (ltb (before b.name) b.newest.0)) [
   | inl below ↦

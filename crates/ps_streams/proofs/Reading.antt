@@ -11,7 +11,7 @@ use Rattle.ps_session.specs.declared.phases.Phase.{Phase}
 use Rattle.ps_session.specs.declared.phases.Phase.TheVariants.{Start, Download, Void, Done}
 use Rattle.ps_streams.specs.Runs.{batch_at}
 use Rattle.ps_session.specs.Sessions.{SessionState, IsReadAt, IsReading, IsTaking, action_in, behind, download_action, next_action}
-use Rattle.ps_session.specs.Takes.{name_of}
+use Rattle.ps_session.specs.Takes.{taken_name}
 use Rattle.ps_streams.specs.Turning.{passed_in, takes_in}
 
 -- ---- a take
@@ -61,10 +61,10 @@ record IsReadOf (session : SessionState) (after upto : OpId) (name : List ℕ) (
   upto_is : session.last.last_op.0 ≡ upto.0
 
 read_of_bucket : (session : SessionState) (place : ℕ) (after upto : OpId) (name : List ℕ) → next_action session ≡ Read place after upto
-    → option_map name_of (behind session) ≡ Some name → (bucket : TakenBucket) × IsReadOf session after upto name bucket
+    → option_map taken_name (behind session) ≡ Some name → (bucket : TakenBucket) × IsReadOf session after upto name bucket
 read_of_bucket session place after upto name action named = by session.phase refl action
   where
-    at_bucket : (o : Option TakenBucket) → session.phase ≡ Download → behind session ≡ o → option_map name_of o ≡ Some name
+    at_bucket : (o : Option TakenBucket) → session.phase ≡ Download → behind session ≡ o → option_map taken_name o ≡ Some name
         → download_action o session ≡ Read place after upto → (bucket : TakenBucket) × IsReadOf session after upto name bucket
     at_bucket None phase is there asked = cc
     at_bucket (Some bucket) phase is there asked =
@@ -80,14 +80,14 @@ read_of_bucket session place after upto name action named = by session.phase ref
     by Done is asked = cc
 
 pub read_takes_not : (session : SessionState) (place : ℕ) (after upto : OpId) (name : List ℕ) → next_action session ≡ Read place after upto
-    → option_map name_of (behind session) ≡ Some name → takes_in session.phase ≡ false
+    → option_map taken_name (behind session) ≡ Some name → takes_in session.phase ≡ false
 read_takes_not session place after upto name action named =
     let found = read_of_bucket session place after upto name action named in
     ap takes_in found.1.phase
 
 -- what is passed is the batch's
 pub read_passes : (course : Course) (n : ℕ) (session : SessionState) (place : ℕ) (after upto : OpId) (name : List ℕ) (batch : Batch) → next_action session ≡ Read place after upto
-    → option_map name_of (behind session) ≡ Some name → batch ≡ course.batch n name after.0 upto.0 → passed_in session.phase course n session ≡ batch.passed
+    → option_map taken_name (behind session) ≡ Some name → batch ≡ course.batch n name after.0 upto.0 → passed_in session.phase course n session ≡ batch.passed
 read_passes course n session place after upto name batch action named is =
     let found = read_of_bucket session place after upto name action named in
     let bucket = found.0 in

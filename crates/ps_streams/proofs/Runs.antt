@@ -11,7 +11,7 @@ use Rattle.ps_bucket_log.specs.declared.takes.Taken.{Taken}
 use Rattle.ps_bucket_log.specs.declared.takes.TakenBucket.{TakenBucket}
 use Rattle.ps_store.specs.Courses.{Course}
 use Rattle.ps_store.specs.CourseLaws.{IsLawful}
-use Rattle.ps_store.specs.Readings.{AreTold, taken_names}
+use Rattle.ps_store.specs.Readings.{AreToldBehindMark, taken_names}
 use Rattle.ps_session.specs.declared.phases.Phase.{Phase}
 use Rattle.ps_session.specs.declared.phases.Phase.TheVariants.{Start, Download, Void, Done}
 use Rattle.ps_session.specs.Takes.{is_unchanged}
@@ -215,7 +215,7 @@ module _ (a b : Course) (end : ℕ) (agree : AgreeUpTo a b end) where
       ∙ same_place ts t.place (at_after session.phase at t.place) (turn b t.place session).session climbs.1
 
   told_at : (n : ℕ) → n ≤ end → IsToldAt a n → IsToldAt b n
-  told_at n low told = subst (λ (one : Taken). AreTold (taken_names one)) (agree.take n low) told
+  told_at n low told = subst (λ (one : Taken). AreToldBehindMark (taken_names one)) (agree.take n low) told
 
   told_in : (phase : Phase) (n : ℕ) → n ≤ end → IsToldIn phase a n → IsToldIn phase b n
   told_in Start n low told = told_at n low told

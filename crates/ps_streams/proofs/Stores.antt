@@ -12,14 +12,14 @@ use Rattle.ps_store.specs.declared.fixed.Fixed.{Fixed}
 use Rattle.ps_store.specs.declared.readings.TakeFault.{TakeFault}
 use Rattle.ps_store.specs.declared.stores.Store.{Store}
 use Rattle.ps_store.specs.Ledgers.{ledger_of}
-use Rattle.ps_store.specs.Readings.{Takes, batch_of}
+use Rattle.ps_store.specs.Readings.{TakesCheckpoint, batch_of}
 use Rattle.ps_store.specs.Stores.{StoreStandsFor}
 
 pub serves_still : (fixed : Fixed) (store : Store) (history : List Event) → StoreStandsFor fixed store history → StoreStandsFor fixed store (history ++ [])
 serves_still fixed store history serves = subst (λ (events : List Event). StoreStandsFor fixed store events) (sym (append-nil history)) serves
 
-pub takes_still : (fixed : Fixed) (history : List Event) (asker : Asker) (result : Result Taken TakeFault) → Takes fixed history asker result → Takes fixed (history ++ []) asker result
-takes_still fixed history asker result takes = subst (λ (events : List Event). Takes fixed events asker result) (sym (append-nil history)) takes
+pub takes_still : (fixed : Fixed) (history : List Event) (asker : Asker) (result : Result Taken TakeFault) → TakesCheckpoint fixed history asker result → TakesCheckpoint fixed (history ++ []) asker result
+takes_still fixed history asker result takes = subst (λ (events : List Event). TakesCheckpoint fixed events asker result) (sym (append-nil history)) takes
 
 pub reads_still : (fixed : Fixed) (history : List Event) (bucket : List ℕ) (after upto : OpId) (result : Result Batch Memory)
     → IfOk result (λ (batch : Batch). batch ≡ batch_of (ledger_of fixed.rules history) bucket after.0 upto.0)

@@ -7,23 +7,23 @@ use Rattle.ps_session.specs.declared.phases.Phase.{Phase}
 use Rattle.ps_session.specs.declared.phases.Phase.TheVariants.{Start, Download, Void, Done}
 use Rattle.ps_session.specs.Sessions.{SessionState}
 use Rattle.ps_streams.specs.Runs.{Made, Turn, Climbs, all_made, at_after, made_by, turn}
-use Rattle.ps_streams.specs.TakePlaces.{Rise, place_of, taken_at, take_places}
+use Rattle.ps_streams.specs.TakePlaces.{PlacesNeverFall, take_place, taken_at, take_places}
 
 -- they also rise from a lower place on
-rise_lower : (low n high : ℕ) (ns : List ℕ) → low ≤ n → Rise n ns high → Rise low ns high
+rise_lower : (low n high : ℕ) (ns : List ℕ) → low ≤ n → PlacesNeverFall n ns high → PlacesNeverFall low ns high
 rise_lower low n high [] less rise = omega (arith, less, rise)
 rise_lower low n high (m ∷ ms) less rise =
     let first = rise.0 in
     let lower : low ≤ m = omega (arith, less, first) in
     (lower, rise.1)
 
-rise_more : (phase : Phase) (low n high : ℕ) (ns : List ℕ) → low ≤ n → Rise n ns high → Rise low (taken_at phase n ++ ns) high
+rise_more : (phase : Phase) (low n high : ℕ) (ns : List ℕ) → low ≤ n → PlacesNeverFall n ns high → PlacesNeverFall low (taken_at phase n ++ ns) high
 rise_more Start low n high ns less rise = (less, rise)
 rise_more Download low n high ns less rise = rise_lower low n high ns less rise
 rise_more Void low n high ns less rise = (less, rise)
 rise_more Done low n high ns less rise = (less, rise)
 
-pub takes_rise : (course : Course) (start end : ℕ) (s : SessionState) (turns : List Turn) → Climbs start turns end → Rise start (take_places course s turns) end
+pub takes_rise : (course : Course) (start end : ℕ) (s : SessionState) (turns : List Turn) → Climbs start turns end → PlacesNeverFall start (take_places course s turns) end
 takes_rise course start end s [] climbs = climbs
 takes_rise course start end s (t ∷ ts) climbs =
     rise_more s.phase start t.place end (take_places course (turn course t.place s).session ts) climbs.0
@@ -43,14 +43,14 @@ after_upto Download at n less = less
 after_upto Void at n less = omega arith
 after_upto Done at n less = omega arith
 
-made_more : (line : Option Line) (expires : Option ℕ) (low at high : ℕ) (rest : List Made) → low ≤ at → Rise at (map place_of rest) high
-    → Rise low (map place_of (made_by at line expires rest)) high
+made_more : (line : Option Line) (expires : Option ℕ) (low at high : ℕ) (rest : List Made) → low ≤ at → PlacesNeverFall at (map take_place rest) high
+    → PlacesNeverFall low (map take_place (made_by at line expires rest)) high
 made_more (Some line) expires low at high rest less rise = (less, rise)
 made_more None (Some seconds) low at high rest less rise = (less, rise)
-made_more None None low at high rest less rise = rise_lower low at high (map place_of rest) less rise
+made_more None None low at high rest less rise = rise_lower low at high (map take_place rest) less rise
 
 pub lines_rise : (course : Course) (at start end : ℕ) (s : SessionState) (turns : List Turn) → at ≤ start → Climbs start turns end
-    → Rise at (map place_of (all_made course at s turns)) end
+    → PlacesNeverFall at (map take_place (all_made course at s turns)) end
 lines_rise course at start end s [] less climbs = omega (arith, less, climbs)
 lines_rise course at start end s (t ∷ ts) less climbs =
     let first = climbs.0 in

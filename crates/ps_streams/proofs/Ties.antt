@@ -2,7 +2,7 @@
 use Rattle.std.proofs.Common.{◌≡◌, ℕ, ◌≤◌, Bool, true, false, cond, inl, inr, Option, Some, None, List, arith}
 use Rattle.std.specs.Prelude.{unwrap_or, bytes_eq}
 use Rattle.std.proofs.lemmas.Bool.{cases_Bool}
-use Rattle.ps_bucket_log.specs.Buckets.{Bucket, fresh}
+use Rattle.ps_bucket_log.specs.Buckets.{Bucket, fresh_bucket}
 use Rattle.ps_lines.specs.declared.lines.Line.{Line}
 use Rattle.ps_lines.specs.declared.lines.Line.TheVariants.{Expires}
 use Rattle.ps_lines.specs.Writing.{IsWritable}
@@ -40,12 +40,12 @@ module _ (course : Course) (lawful : IsLawful course) where
 
   -- some are dropped
   pub honest_where : (n : ℕ) (keeps : Bool) (buckets : Buckets) (name : List ℕ) → AreHonest course n buckets
-      → IsHonestAt course n name (unwrap_or (cond keeps (buckets name) None) fresh)
+      → IsHonestAt course n name (unwrap_or (cond keeps (buckets name) None) fresh_bucket)
   honest_where n true buckets name honest = honest name
   honest_where n false buckets name honest = lawful.later.afresh n name
 
   pub honest_where_not : (n : ℕ) (drops : Bool) (buckets : Buckets) (name : List ℕ) → AreHonest course n buckets
-      → IsHonestAt course n name (unwrap_or (cond drops None (buckets name)) fresh)
+      → IsHonestAt course n name (unwrap_or (cond drops None (buckets name)) fresh_bucket)
   honest_where_not n true buckets name honest = lawful.later.afresh n name
   honest_where_not n false buckets name honest = honest name
 

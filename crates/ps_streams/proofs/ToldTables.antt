@@ -14,11 +14,11 @@ use Rattle.ps_lines.specs.declared.lines.Entry.{Entry}
 use Rattle.ps_client.specs.Tables.{Entries, told, is_told, is_one_of, with_entry, with_entries, without, last_entry}
 use Rattle.ps_bucket_log.specs.declared.takes.Taken.{Taken}
 use Rattle.ps_bucket_log.specs.declared.takes.TakenBucket.{TakenBucket}
-use Rattle.ps_store.specs.Courses.{bucket_in, is_in}
+use Rattle.ps_store.specs.Courses.{bucket_in, has_taken_bucket}
 use Rattle.ps_store.specs.CourseLaws.{AreApart}
-use Rattle.ps_session.specs.Takes.{name_of, entry_of, same_bucket, same_buckets, same_number, is_unchanged, removed, is_as, updated}
+use Rattle.ps_session.specs.Takes.{taken_name, entry_of, same_bucket, same_buckets, same_number, is_unchanged, removed, is_as, updated}
 use Rattle.ps_session.specs.Sessions.{first_behind}
-use Rattle.ps_streams.specs.Ties.{Tells}
+use Rattle.ps_streams.specs.Ties.{EntriesTell}
 
 -- ---- names
 
@@ -106,7 +106,7 @@ told-without names entries name =
 
 -- ---- what entries tell
 
-pub is_told-Tells : (entries : Entries) (buckets : List TakenBucket) → Tells entries buckets → (name : List ℕ) → is_told entries name ≡ is_in buckets name
+pub is_told-Tells : (entries : Entries) (buckets : List TakenBucket) → EntriesTell entries buckets → (name : List ℕ) → is_told entries name ≡ has_taken_bucket buckets name
 is_told-Tells entries buckets tells name = elim (finds name buckets) [
   | found bucket is ↦ rw (tells name, is) refl
   | missing is ↦ rw (tells name, is) refl
@@ -140,7 +140,7 @@ filter-all [] = refl
 filter-all (b ∷ bs) = ap (λ xs. b ∷ xs) (filter-all bs)
 
 -- a table of the entries of all buckets
-pub tells-all : (buckets : List TakenBucket) → AreApart buckets → Tells (with_entries [] (map entry_of buckets)) buckets
+pub tells-all : (buckets : List TakenBucket) → AreApart buckets → EntriesTell (with_entries [] (map entry_of buckets)) buckets
 tells-all buckets apart name =
     told-with_entries (map entry_of buckets) [] name ∙ option_or-none _
     ∙ ap (λ (bs : List TakenBucket). last_entry (map entry_of bs) name) (sym (filter-all buckets)) ∙ last-filter (λ bucket. true) buckets name apart
@@ -150,18 +150,18 @@ tells-all buckets apart name =
 
 -- a name is removed exactly where it was there and is there no more
 is_one_of-gone : (new old : List TakenBucket) (name : List ℕ)
-    → is_one_of (filter (λ other. not (is_in new other)) (map name_of old)) name ≡ (is_in old name && not (is_in new name))
+    → is_one_of (filter (λ other. not (has_taken_bucket new other)) (map taken_name old)) name ≡ (has_taken_bucket old name && not (has_taken_bucket new name))
 is_one_of-gone new [] name = refl
 is_one_of-gone new (b ∷ bs) name = elim (cases_Bool (bytes_eq name b.name)) [
-  | inl same ↦ elim (cases_Bool (is_in new b.name)) [
+  | inl same ↦ elim (cases_Bool (has_taken_bucket new b.name)) [
     | inl there ↦
-        let here : is_in new name ≡ true = rw (same_name name b.name same) there in
-        rw (there, same) (is_one_of-gone new bs name ∙ rw here (by (is_in bs name)))
+        let here : has_taken_bucket new name ≡ true = rw (same_name name b.name same) there in
+        rw (there, same) (is_one_of-gone new bs name ∙ rw here (by (has_taken_bucket bs name)))
     | inr gone ↦
-        let here : is_in new name ≡ false = rw (same_name name b.name same) gone in
+        let here : has_taken_bucket new name ≡ false = rw (same_name name b.name same) gone in
         rw (gone, same, here) refl
   ]
-  | inr other ↦ elim (cases_Bool (is_in new b.name)) [
+  | inr other ↦ elim (cases_Bool (has_taken_bucket new b.name)) [
     | inl there ↦ rw (there, other) (is_one_of-gone new bs name)
     | inr gone ↦ rw (gone, other) (is_one_of-gone new bs name)
   ]
@@ -171,7 +171,7 @@ is_one_of-gone new (b ∷ bs) name = elim (cases_Bool (bytes_eq name b.name)) [
     by true = refl
     by false = refl
 
-pub is_one_of-removed : (old new : List TakenBucket) (name : List ℕ) → is_one_of (removed old new) name ≡ (is_in old name && not (is_in new name))
+pub is_one_of-removed : (old new : List TakenBucket) (name : List ℕ) → is_one_of (removed old new) name ≡ (has_taken_bucket old name && not (has_taken_bucket new name))
 is_one_of-removed old new name = is_one_of-gone new old name
 
 same_number-is : (a b : Option ℕ) → same_number a b ≡ true → a ≡ b
@@ -203,8 +203,8 @@ same_buckets-is (x ∷ xs) (y ∷ ys) same =
     cc
 
 -- the table after a diff
-pub tells-diff : (entries : Entries) (old new : List TakenBucket) → AreApart new → Tells entries old
-    → Tells (with_entries (without (removed old new) entries) (map entry_of (updated old new))) new
+pub tells-diff : (entries : Entries) (old new : List TakenBucket) → AreApart new → EntriesTell entries old
+    → EntriesTell (with_entries (without (removed old new) entries) (map entry_of (updated old new))) new
 tells-diff entries old new apart tells name =
     let p = λ (b : TakenBucket). not (is_as (bucket_in b.name old) b) in
     let left = told-without (removed old new) entries name in
@@ -233,8 +233,8 @@ tells-diff entries old new apart tells name =
 -- ---- tests over names
 
 -- each name that is there passes, so each that is kept does
-kept_pass : (r q : List ℕ → Bool) (buckets : List TakenBucket) → ((name : List ℕ) → is_in buckets name ≡ true → r name ≡ true)
-    → list_all r (filter q (map name_of buckets)) ≡ true
+kept_pass : (r q : List ℕ → Bool) (buckets : List TakenBucket) → ((name : List ℕ) → has_taken_bucket buckets name ≡ true → r name ≡ true)
+    → list_all r (filter q (map taken_name buckets)) ≡ true
 kept_pass r q [] passes = refl
 kept_pass r q (b ∷ bs) passes =
     let first : r b.name ≡ true = passes b.name (rw (bytes_eq-self b.name) refl) in
@@ -245,9 +245,9 @@ kept_pass r q (b ∷ bs) passes =
     ]
 
 -- what a diff removes was told before
-pub removed_are_told : (entries : Entries) (old new : List TakenBucket) → Tells entries old → list_all (is_told entries) (removed old new) ≡ true
+pub removed_are_told : (entries : Entries) (old new : List TakenBucket) → EntriesTell entries old → list_all (is_told entries) (removed old new) ≡ true
 removed_are_told entries old new tells =
-    kept_pass (is_told entries) (λ name. not (is_in new name)) old (λ name there. is_told-Tells entries old tells name ∙ there)
+    kept_pass (is_told entries) (λ name. not (has_taken_bucket new name)) old (λ name there. is_told-Tells entries old tells name ∙ there)
 
 -- where no told name passes, none is kept
 pub none_kept : (p : List ℕ → Bool) (entries : Entries) → ((name : List ℕ) → is_told entries name ≡ true → p name ≡ false) → filter p (keys_of entries) ≡ []

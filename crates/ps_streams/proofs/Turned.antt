@@ -15,12 +15,12 @@ use Rattle.ps_store.specs.declared.readings.TakeFault.TheVariants.{TooManyBucket
 use Rattle.ps_store.specs.Courses.{Course, course_of}
 use Rattle.ps_store.specs.CourseLaws.{IsLawful, CoursesAreLawful, EndsAreWhole, PlacesStay}
 use Rattle.ps_store.specs.Ledgers.{Ledger, ledger_of}
-use Rattle.ps_store.specs.Readings.{AreTold, IsTaken, Takes, batch_of, bucket_upto, names_of, take_of, taken_names}
+use Rattle.ps_store.specs.Readings.{AreToldBehindMark, CheckpointIsTaken, TakesCheckpoint, batch_of, bucket_upto, asker_bucket_names, take_of, taken_names}
 use Rattle.ps_session.specs.declared.actions.Action.TheVariants.{Read, Complete}
 use Rattle.ps_session.specs.declared.phases.Phase.{Phase}
 use Rattle.ps_session.specs.declared.phases.Phase.TheVariants.{Start, Download, Void, Done}
 use Rattle.ps_session.specs.Sessions.{SessionState, Turned, IsTaking, behind, finished, next_action, read, took}
-use Rattle.ps_session.specs.Takes.{name_of}
+use Rattle.ps_session.specs.Takes.{taken_name}
 use Rattle.ps_streams.specs.declared.outcomes.TurnOutcome.{TurnOutcome}
 use Rattle.ps_streams.specs.Calls.{FinishesAreTurns, LinesAreWritable, ReadsAreTurns, ReadsGiveSomething, TakesAreTurns, TurnsKeepTaken}
 use Rattle.ps_streams.specs.Runs.{IsToldIn, at_after, turn}
@@ -77,7 +77,7 @@ module _ (fixed : Fixed) (history : List Event) (asker : Asker) (at : ℕ) (sess
   n = length history
 
   abbrev AreFew : Type 0
-  AreFew = length (names_of (ledger_of fixed.rules history) asker) ≤ fixed.limits.buckets
+  AreFew = length (asker_bucket_names (ledger_of fixed.rules history) asker) ≤ fixed.limits.buckets
 
   is_lawful : CoursesAreLawful → IsLawful c
   is_lawful lawful = lawful fixed.rules history asker valid.rules valid.numbers valid.legal
@@ -112,7 +112,7 @@ module _ (fixed : Fixed) (history : List Event) (asker : Asker) (at : ℕ) (sess
   take_is : EndsAreWhole → c.take n ≡ take_of (ledger_of fixed.rules history) asker
   take_is whole = ap (λ (l : Ledger). take_of l asker) (whole fixed.rules history)
 
-  module _ (taken : Taken) (it : IsTaken fixed.limits (ledger_of fixed.rules history) asker taken) (taking : IsTaking (next_action session)) (asks : TakesAreTurns) (whole : EndsAreWhole) where
+  module _ (taken : Taken) (it : CheckpointIsTaken fixed.limits (ledger_of fixed.rules history) asker taken) (taking : IsTaking (next_action session)) (asks : TakesAreTurns) (whole : EndsAreWhole) where
     value : c.take n ≡ taken
     value = take_is whole ∙ sym it.value
 
@@ -120,13 +120,13 @@ module _ (fixed : Fixed) (history : List Event) (asker : Asker) (at : ℕ) (sess
     take_turn = (asks c at n session taking).0 ∙ ap (took session) value
 
     take_told : IsToldIn session.phase c n
-    take_told = (asks c at n session taking).2 (subst (λ (t : Taken). AreTold (taken_names t)) (sym value) it.told)
+    take_told = (asks c at n session taking).2 (subst (λ (t : Taken). AreToldBehindMark (taken_names t)) (sym value) it.told)
 
     take_few : AreFew
     take_few =
         let l = ledger_of fixed.rules history in
-        let count : length taken.buckets ≡ length (names_of l asker) =
-        ap (λ (t : Taken). length t.buckets) it.value ∙ length-map (names_of l asker) (λ (name : List ℕ). bucket_upto l.op name (l.log name)) in
+        let count : length taken.buckets ≡ length (asker_bucket_names l asker) =
+        ap (λ (t : Taken). length t.buckets) it.value ∙ length-map (asker_bucket_names l asker) (λ (name : List ℕ). bucket_upto l.op name (l.log name)) in
         omega (arith, it.few, count)
 
     pub take_writes : LinesAreWritable → CoursesAreLawful → (line : Option Line) → line ≡ (took session taken).line → IfSome line IsWritable
@@ -137,13 +137,13 @@ module _ (fixed : Fixed) (history : List Event) (asker : Asker) (at : ℕ) (sess
     take_turned keeps new line outcome new_is line_is outcome_is =
         turned_so keeps (took session taken) new line None outcome take_turn take_told (λ taken_in. take_few) (take_passes_none c n session taking) new_is line_is outcome_is
 
-  pub not_taken : (fault : TakeFault) (new : SessionState) → new ≡ session → Takes fixed history asker (Err fault) → IsTaking (next_action session) → TurnsSo fixed history asker at session new (Err fault)
+  pub not_taken : (fault : TakeFault) (new : SessionState) → new ≡ session → TakesCheckpoint fixed history asker (Err fault) → IsTaking (next_action session) → TurnsSo fixed history asker at session new (Err fault)
   not_taken (TooManyBuckets count) new same many taking = (takes session taking, same, many)
   not_taken Memory new same many taking = same
 
   -- ---- a read
 
-  module _ (place : ℕ) (after upto : OpId) (name : List ℕ) (batch : Batch) (action : next_action session ≡ Read place after upto) (named : option_map name_of (behind session) ≡ Some name)
+  module _ (place : ℕ) (after upto : OpId) (name : List ℕ) (batch : Batch) (action : next_action session ≡ Read place after upto) (named : option_map taken_name (behind session) ≡ Some name)
       (batch_is : batch ≡ batch_of (ledger_of fixed.rules history) name after.0 upto.0) (reads : ReadsAreTurns) (whole : EndsAreWhole) where
     read_is : batch ≡ c.batch n name after.0 upto.0
     read_is = batch_is ∙ sym (ap (λ (l : Ledger). batch_of l name after.0 upto.0) (whole fixed.rules history))
@@ -186,5 +186,5 @@ module _ (fixed : Fixed) (history : List Event) (asker : Asker) (at : ℕ) (sess
       takes_none never taking = cc
 
 -- what was taken is the asker's
-pub takes_by : (fixed : Fixed) (history : List Event) (a b : Asker) (result : _) → a ≡ b → Takes fixed history a result → Takes fixed history b result
-takes_by fixed history a b result same it = subst (λ (own : Asker). Takes fixed history own result) same it
+pub takes_by : (fixed : Fixed) (history : List Event) (a b : Asker) (result : _) → a ≡ b → TakesCheckpoint fixed history a result → TakesCheckpoint fixed history b result
+takes_by fixed history a b result same it = subst (λ (own : Asker). TakesCheckpoint fixed history own result) same it

@@ -9,7 +9,7 @@ use Rattle.ps_bucket_log.specs.declared.ops.Key.{Key}
 use Rattle.ps_bucket_log.specs.declared.ops.Op.{Op}
 use Rattle.ps_bucket_log.specs.declared.batches.Batch.{Batch}
 use Rattle.ps_bucket_log.specs.Ops.{id_of, place_after}
-use Rattle.ps_bucket_log.specs.Buckets.{Bucket, after, fresh}
+use Rattle.ps_bucket_log.specs.Buckets.{Bucket, after, fresh_bucket}
 use Rattle.ps_bucket_log.specs.Logs.{IsRising}
 use Rattle.ps_rows.specs.declared.changes.Change.{Change}
 use Rattle.ps_rows.specs.declared.shown.Shown.{Shown}
@@ -31,7 +31,7 @@ use Rattle.ps_client.specs.Clients.{table_of, comes_next, held_by_target, held_b
 use Rattle.ps_client.specs.Taking.{Rows, AreHeld}
 use Rattle.ps_bucket_log.specs.declared.takes.Taken.{Taken}
 use Rattle.ps_bucket_log.specs.declared.takes.TakenBucket.{TakenBucket}
-use Rattle.ps_store.specs.Courses.{Course, bucket_in, is_in}
+use Rattle.ps_store.specs.Courses.{Course, bucket_in, has_taken_bucket}
 use Rattle.ps_store.specs.CourseLaws.{IsLawful, IsHonestAt, due_bucket, HoldsTaken}
 use Rattle.ps_store.specs.Latest.{IsLatestData, ShowsLatest}
 use Rattle.ps_store.specs.Standing.{Holding}
@@ -41,12 +41,12 @@ use Rattle.ps_session.specs.Takes.{entry_of, removed, updated, is_unchanged}
 use Rattle.ps_session.specs.Sessions.{SessionState, places_in, with_diff, took_in, phase_after, with_place, read_in, read_of, finished, first_behind, behind}
 use Rattle.ps_streams.specs.Runs.{batch_at, download, turn_in, at_after, IsToldAt, IsToldIn}
 use Rattle.ps_streams.specs.Headline.{Buckets, AreHonest, AsksOn, AreListed, IsCovered, reader_of, client_of}
-use Rattle.ps_streams.specs.Ties.{Tells, Shares, TiedAtStart, TiedSince, TiedIn, Tied}
+use Rattle.ps_streams.specs.Ties.{EntriesTell, Shares, TiedAtStart, TiedSince, TiedIn, Tied}
 use Rattle.ps_streams.proofs.ToldTables.{found, missing, finds, same_name, is_told-Tells, tells-all, is_one_of-removed, tells-diff, removed_are_told, none_kept, unchanged, first_behind-at, none_behind}
 use Rattle.ps_streams.proofs.HonestReaders.{read_later, all_within, place_after-within, newest-place, with_taken-some, position-after}
 use Rattle.ps_streams.proofs.Ties.{Goes, with_reader, honest_later, honest_where, honest_where_not, honest_with}
 
-is_in-none : (buckets : List TakenBucket) (name : List ℕ) → bucket_in name buckets ≡ None → is_in buckets name ≡ false
+is_in-none : (buckets : List TakenBucket) (name : List ℕ) → bucket_in name buckets ≡ None → has_taken_bucket buckets name ≡ false
 is_in-none buckets name is = ap is_some is
 
 pub priorities_fit : (buckets : List TakenBucket) → All (λ (entry : Entry). entry.priority ≤ 3) (map entry_of buckets)
@@ -123,7 +123,7 @@ module _ (course : Course) (lawful : IsLawful course) where
         op = refl;
         number = refl;
         tells = all;
-        places_are = λ name. rw (same name) (elim (cases_Bool (is_in (course.take n).buckets name)) [
+        places_are = λ name. rw (same name) (elim (cases_Bool (has_taken_bucket (course.take n).buckets name)) [
           | inl there ↦ rw there (requested name)
           | inr not_there ↦ rw not_there refl
         ]);
@@ -158,14 +158,14 @@ module _ (course : Course) (lawful : IsLawful course) where
         op = refl;
         number = refl;
         tells = tells-diff table.told old new (lawful.takes.apart n) shares.tells;
-        places_are = λ name. rw (gone name) (elim (cases_Bool (is_in new name)) [
-          | inl there ↦ rw there (elim (cases_Bool (is_in old name)) [ inl was ↦ rw was (shares.places_are name) | inr was_not ↦ rw was_not (shares.places_are name) ])
-          | inr not_there ↦ rw not_there (elim (cases_Bool (is_in old name)) [
+        places_are = λ name. rw (gone name) (elim (cases_Bool (has_taken_bucket new name)) [
+          | inl there ↦ rw there (elim (cases_Bool (has_taken_bucket old name)) [ inl was ↦ rw was (shares.places_are name) | inr was_not ↦ rw was_not (shares.places_are name) ])
+          | inr not_there ↦ rw not_there (elim (cases_Bool (has_taken_bucket old name)) [
             | inl was ↦ rw was refl
             | inr was_not ↦ rw (was_not, shares.only name was_not) refl
           ])
         ]);
-        only = λ name not_there. rw (gone name, not_there) (elim (cases_Bool (is_in old name)) [
+        only = λ name not_there. rw (gone name, not_there) (elim (cases_Bool (has_taken_bucket old name)) [
           | inl was ↦ rw was refl
           | inr was_not ↦ rw was_not (shares.only name was_not)
         ]);
@@ -246,9 +246,9 @@ module _ (course : Course) (lawful : IsLawful course) where
 
   -- the client takes a batch
   shares_data : (since : ℕ) (last : Taken) (places : List ℕ → ℕ) (buckets : Buckets) (table : Table) (name : List ℕ) (ops : List Op)
-      → is_in last.buckets name ≡ true → IsHonestAt course since name (fold after (reader_of buckets name) ops) → AreHonest course since buckets
-      → Tells table.told last.buckets → table.last_op.0 ≡ last.last_op.0 → table.number ≡ last.number
-      → ((other : List ℕ) → places other ≡ (reader_of buckets other).position) → ((other : List ℕ) → is_in last.buckets other ≡ false → buckets other ≡ None)
+      → has_taken_bucket last.buckets name ≡ true → IsHonestAt course since name (fold after (reader_of buckets name) ops) → AreHonest course since buckets
+      → EntriesTell table.told last.buckets → table.last_op.0 ≡ last.last_op.0 → table.number ≡ last.number
+      → ((other : List ℕ) → places other ≡ (reader_of buckets other).position) → ((other : List ℕ) → has_taken_bucket last.buckets other ≡ false → buckets other ≡ None)
       → Shares course since last (with_place name (place_after (places name) ops) places) (with_reader name (fold after (reader_of buckets name) ops) buckets) table
   shares_data since last places buckets table name ops there own honest tells op number places_are only = record {
     op = op;
@@ -260,7 +260,7 @@ module _ (course : Course) (lawful : IsLawful course) where
     ];
     only = λ other not_there. elim (cases_Bool (bytes_eq name other)) [
       | inl same ↦
-          let no : is_in last.buckets name ≡ false = rw (same_name name other same) not_there in
+          let no : has_taken_bucket last.buckets name ≡ false = rw (same_name name other same) not_there in
           cc
       | inr apart ↦ rw apart (only other not_there)
     ];
@@ -268,7 +268,7 @@ module _ (course : Course) (lawful : IsLawful course) where
   }
 
   goes_data : (at n : ℕ) (session : SessionState) (name : List ℕ) (batch : Batch) (buckets : Buckets) (stream : Stream) → at ≤ n
-      → is_in session.last.buckets name ≡ true → batch ≡ course.batch n name (reader_of buckets name).position (course.op at) → batch.ops ≢ []
+      → has_taken_bucket session.last.buckets name ≡ true → batch ≡ course.batch n name (reader_of buckets name).position (course.op at) → batch.ops ≢ []
       → TiedSince course at at session buckets stream
       → Goes course at n (read_in None session name batch).session (read_in None session name batch).line buckets stream
   goes_data at n session name batch buckets stream late there is some tied local =
@@ -355,12 +355,12 @@ module _ (course : Course) (lawful : IsLawful course) where
   holds_taken at session buckets stream none tied = record {
     own = λ name there key. elim (finds name session.last.buckets) [
       | missing is ↦
-          let no : is_in session.last.buckets name ≡ false = is_in-none session.last.buckets name is in
-          let yes : is_in session.last.buckets name ≡ true = rw tied.taken_is there in
+          let no : has_taken_bucket session.last.buckets name ≡ false = is_in-none session.last.buckets name is in
+          let yes : has_taken_bucket session.last.buckets name ≡ true = rw tied.taken_is there in
           cc
       | found bucket is ↦ (whole at session buckets stream tied name bucket is (none_behind session.places session.last.buckets name bucket none is)).1 key
     ];
-    only = λ name not_there key. ap (λ (b : Option Bucket). (unwrap_or b fresh).held key) (tied.shares.only name (rw tied.taken_is not_there));
+    only = λ name not_there key. ap (λ (b : Option Bucket). (unwrap_or b fresh_bucket).held key) (tied.shares.only name (rw tied.taken_is not_there));
   }
 
   goes_complete : (at n : ℕ) (session : SessionState) (buckets : Buckets) (stream : Stream) → at ≤ n

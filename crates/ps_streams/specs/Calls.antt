@@ -13,11 +13,11 @@ use Rattle.ps_client.specs.declared.faults.ClientFault.{ClientFault}
 use Rattle.ps_client.specs.declared.faults.ClientFault.TheVariants.{OutOfOrder, BadLine, KeeperFault, QueueEmpty, QueueWaiting, Memory}
 use Rattle.ps_client.specs.Clients.{PlainClient, taken, line_taken}
 use Rattle.ps_client.specs.Requests.{IsRequest}
-use Rattle.ps_client.specs.Taking.{Answers}
+use Rattle.ps_client.specs.Taking.{AnswersLine}
 use Rattle.ps_store.specs.Courses.{Course, Upload}
 use Rattle.ps_store.specs.CourseLaws.{IsLawful, CoversAt}
 use Rattle.ps_session.specs.declared.actions.Action.TheVariants.{Read, Complete}
-use Rattle.ps_session.specs.Takes.{name_of}
+use Rattle.ps_session.specs.Takes.{taken_name}
 use Rattle.ps_session.specs.Sessions.{SessionState, IsTaking, next_action, behind, took, read, finished, begin, requested_in}
 use Rattle.ps_streams.specs.Runs.{turn, at_after, IsToldAt, IsToldIn}
 use Rattle.ps_streams.specs.Headline.{Local, AsksOn, IsGood, IsCovered, AreListed, with_local}
@@ -33,7 +33,7 @@ TakesAreTurns = (course : Course) (at n : ℕ) (session : SessionState) → IsTa
 -- where a read is asked for, the batch at a place makes the turn there
 abbrev pub ReadsAreTurns : Type 0
 ReadsAreTurns = (course : Course) (at n bucket : ℕ) (after upto : OpId) (name : List ℕ) (session : SessionState)
-    → next_action session ≡ Read bucket after upto → option_map name_of (behind session) ≡ Some name
+    → next_action session ≡ Read bucket after upto → option_map taken_name (behind session) ≡ Some name
     → (turn course n session ≡ read session (course.batch n name after.0 upto.0)) × (at_after session.phase at n ≡ at) × IsToldIn session.phase course n
 
 abbrev pub FinishesAreTurns : Type 0
@@ -52,7 +52,7 @@ TurnsKeepTaken = (course : Course) (at n : ℕ) (session : SessionState) → Has
 abbrev pub ReadsGiveSomething : Type 0
 ReadsGiveSomething = (course : Course) (at n bucket : ℕ) (after upto : OpId) (name : List ℕ) (session : SessionState)
     → IsLawful course → HasTaken course at session → at ≤ n
-    → next_action session ≡ Read bucket after upto → option_map name_of (behind session) ≡ Some name
+    → next_action session ≡ Read bucket after upto → option_map taken_name (behind session) ≡ Some name
     → ((course.batch n name after.0 upto.0).ops ≢ []) ⊎ ((course.batch n name after.0 upto.0).passed ≢ None)
 
 -- whatever a client asked for, each line of a session can be written
@@ -90,19 +90,19 @@ IsRightFault QueueEmpty = ⊥
 IsRightFault (QueueWaiting length) = ⊥
 IsRightFault Memory = Unit {0}
 
-abbrev pub IsRight : Course → ℕ → PlainClient → PlainClient → Result Event ClientFault → Type 0
-IsRight course at old new (Ok event) = IsRightEvent course at old new event
-IsRight course at old new (Err fault) = IsRightFault fault
+abbrev pub IsRightAnswer : Course → ℕ → PlainClient → PlainClient → Result Event ClientFault → Type 0
+IsRightAnswer course at old new (Ok event) = IsRightEvent course at old new event
+IsRightAnswer course at old new (Err fault) = IsRightFault fault
 
 -- where the answer to a line is good, a client that takes the line's bytes answers right
 abbrev pub AnswersAreRight : Type 0
 AnswersAreRight = (course : Course) (at : ℕ) (line : Line) (bytes : List ℕ) (old new : PlainClient) (result : Result Event ClientFault)
     → IsGood course at old.kept (taken old (without_targets line)).answer → line_of bytes ≡ Ok (without_targets line)
-    → Answers (line_taken old bytes) old new result
-    → IsRight course at old new result
+    → AnswersLine (line_taken old bytes) old new result
+    → IsRightAnswer course at old new result
 
 -- and becomes the client that took the line, but for the rows that it shows
 abbrev pub AnswersLead : Type 0
 AnswersLead = (line : Line) (bytes : List ℕ) (old new : PlainClient) (result : Result Event ClientFault)
-    → line_of bytes ≡ Ok (without_targets line) → Answers (line_taken old bytes) old new result
+    → line_of bytes ≡ Ok (without_targets line) → AnswersLine (line_taken old bytes) old new result
     → OnOk result ((local : Local) × (new ≡ with_local local (taken old (without_targets line)).client))

@@ -1,14 +1,14 @@
 -- The theorem: what a client says of the lines of a session, whatever the store is made to do between them.
 use Rattle.std.specs.Prelude.{◌≡◌, ◌↔◌, ℕ, ◌<◌, ◌≤◌, List, [], ◌∷◌, ◌++◌, Contains, Option, Result, Ok, Err, unwrap_or}
 use Rattle.ps_data.specs.declared.ids.OpId.{OpId}
-use Rattle.ps_bucket_log.specs.Buckets.{Bucket, fresh}
+use Rattle.ps_bucket_log.specs.Buckets.{Bucket, fresh_bucket}
 use Rattle.ps_rows.specs.declared.changes.Change.{Change}
 use Rattle.ps_rows.specs.declared.shown.Shown.{Shown}
 use Rattle.ps_rows.specs.Source.{Key as Object}
 use Rattle.ps_client_log.specs.declared.states.Target.{Target}
 use Rattle.ps_client_log.specs.declared.states.Target.TheVariants.{Free, Pending, Number}
 use Rattle.ps_client_log.specs.Kept.{Kept}
-use Rattle.ps_client_log.specs.Rows.{AreInOrder, row_at}
+use Rattle.ps_client_log.specs.Rows.{AreInOrder, shown_at}
 use Rattle.ps_lines.specs.Writing.{IsWritable, without_targets}
 use Rattle.ps_client.specs.declared.events.Event.{Event}
 use Rattle.ps_client.specs.declared.events.Event.TheVariants.{Nothing, Applied, Held, Refused, Expiring}
@@ -31,7 +31,7 @@ Buckets = List ℕ → Option Bucket
 
 -- the bucket of a name; one that is not there holds what one does that took nothing
 abbrev pub reader_of : Buckets → List ℕ → Bucket
-reader_of buckets name = unwrap_or (buckets name) fresh
+reader_of buckets name = unwrap_or (buckets name) fresh_bucket
 
 -- each bucket of a client is honest over the history up to a place
 abbrev pub AreHonest : Course → ℕ → Buckets → Type 0
@@ -68,7 +68,7 @@ IsCovered (Number target) number = target ≤ unwrap_or number 0
 -- the rows in order, of each object the data that is shown
 pub record AreListed (rows : Rows) (listed : List Shown) : Type 0 where
   pub in_order : AreInOrder listed
-  pub each : (object : Object) → row_at object listed ≡ rows object.0 object.1
+  pub each : (object : Object) → shown_at object listed ≡ rows object.0 object.1
 
 -- it applies the checkpoint that was taken at a place: no local writes wait, the checkpoint covers them, and what it shows from
 -- then on are exactly the rows that are due there; each upload is within the position whose write checkpoint the take covers

@@ -5,7 +5,7 @@ use Rattle.ps_lines.specs.declared.lines.Line.{Line}
 use Rattle.ps_lines.specs.declared.lines.Line.TheVariants.{Expires}
 use Rattle.ps_bucket_log.specs.declared.takes.TakenBucket.{TakenBucket}
 use Rattle.ps_store.specs.Courses.{Course}
-use Rattle.ps_store.specs.Readings.{AreTold, taken_names}
+use Rattle.ps_store.specs.Readings.{AreToldBehindMark, taken_names}
 use Rattle.ps_session.specs.declared.phases.Phase.{Phase}
 use Rattle.ps_session.specs.declared.phases.Phase.TheVariants.{Start, Download, Void, Done}
 use Rattle.ps_session.specs.Sessions.{SessionState, Turned, behind, took_in, read, finished}
@@ -38,7 +38,7 @@ at_after Done at n = n
 
 -- the buckets of a take are told: the vectors that they are of are of integers of signed 64 bits
 abbrev pub IsToldAt : Course → ℕ → Type 0
-IsToldAt course n = AreTold (taken_names (course.take n))
+IsToldAt course n = AreToldBehindMark (taken_names (course.take n))
 
 -- what is taken in a turn is told
 abbrev pub IsToldIn : Phase → Course → ℕ → Type 0

@@ -19,19 +19,19 @@ take_places course s [] = []
 take_places course s (t ∷ ts) = taken_at s.phase t.place ++ take_places course (turn course t.place s).session ts
 
 -- places from one on that never fall, up to another
-abbrev pub Rise : ℕ → List ℕ → ℕ → Type 0
-Rise low [] high = low ≤ high
-Rise low (n ∷ ns) high = (low ≤ n) × Rise n ns high
+abbrev pub PlacesNeverFall : ℕ → List ℕ → ℕ → Type 0
+PlacesNeverFall low [] high = low ≤ high
+PlacesNeverFall low (n ∷ ns) high = (low ≤ n) × PlacesNeverFall n ns high
 
 -- the places of a run's takes never fall
 abbrev pub TakesRise : Type 0
-TakesRise = (course : Course) (start end : ℕ) (s : SessionState) (turns : List Turn) → Climbs start turns end → Rise start (take_places course s turns) end
+TakesRise = (course : Course) (start end : ℕ) (s : SessionState) (turns : List Turn) → Climbs start turns end → PlacesNeverFall start (take_places course s turns) end
 
 -- the place of the take that a line is of
-abbrev pub place_of : Made → ℕ
-place_of made = made.at
+abbrev pub take_place : Made → ℕ
+take_place made = made.at
 
 -- nor do those that its lines are of
 abbrev pub LinesRise : Type 0
 LinesRise = (course : Course) (at start end : ℕ) (s : SessionState) (turns : List Turn) → at ≤ start → Climbs start turns end
-    → Rise at (map place_of (all_made course at s turns)) end
+    → PlacesNeverFall at (map take_place (all_made course at s turns)) end

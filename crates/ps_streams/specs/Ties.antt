@@ -8,7 +8,7 @@ use Rattle.ps_client.specs.Clients.{PlainClient, taken}
 use Rattle.ps_client.specs.Tables.{Entries, told}
 use Rattle.ps_bucket_log.specs.declared.takes.Taken.{Taken}
 use Rattle.ps_bucket_log.specs.declared.takes.TakenBucket.{TakenBucket}
-use Rattle.ps_store.specs.Courses.{Course, bucket_in, is_in}
+use Rattle.ps_store.specs.Courses.{Course, bucket_in, has_taken_bucket}
 use Rattle.ps_session.specs.declared.phases.Phase.{Phase}
 use Rattle.ps_session.specs.declared.phases.Phase.TheVariants.{Start, Download, Void, Done}
 use Rattle.ps_session.specs.Takes.{entry_of}
@@ -17,17 +17,17 @@ use Rattle.ps_streams.specs.Runs.{Made, IsToldAt}
 use Rattle.ps_streams.specs.Headline.{Buckets, Local, AreHonest, AsksOn, IsGood, reader_of, with_local}
 
 -- the entries tell these buckets, and no others
-abbrev pub Tells : Entries → List TakenBucket → Type 0
-Tells entries buckets = (name : List ℕ) → told entries name ≡ option_map entry_of (bucket_in name buckets)
+abbrev pub EntriesTell : Entries → List TakenBucket → Type 0
+EntriesTell entries buckets = (name : List ℕ) → told entries name ≡ option_map entry_of (bucket_in name buckets)
 
 -- The table tells what was taken at a place; the session reads each bucket on from where the client stands; the client holds
 -- no other bucket; and it is honest over the history up to a place.
 pub record Shares (course : Course) (since : ℕ) (last : Taken) (places : List ℕ → ℕ) (buckets : Buckets) (table : Table) : Type 0 where
   pub op : table.last_op.0 ≡ last.last_op.0
   pub number : table.number ≡ last.number
-  pub tells : Tells table.told last.buckets
+  pub tells : EntriesTell table.told last.buckets
   pub places_are : (name : List ℕ) → places name ≡ (reader_of buckets name).position
-  pub only : (name : List ℕ) → is_in last.buckets name ≡ false → buckets name ≡ None
+  pub only : (name : List ℕ) → has_taken_bucket last.buckets name ≡ false → buckets name ≡ None
   pub honest : AreHonest course since buckets
 
 pub record TiedAtStart (course : Course) (place : ℕ) (session : SessionState) (buckets : Buckets) (stream : Stream) : Type 0 where

@@ -10,7 +10,7 @@ use Rattle.ps_store.specs.declared.readings.TakeFault.{TakeFault}
 use Rattle.ps_store.specs.declared.readings.TakeFault.TheVariants.{TooManyBuckets, Memory}
 use Rattle.ps_store.specs.Courses.{Course, course_of}
 use Rattle.ps_store.specs.Ledgers.{ledger_of}
-use Rattle.ps_store.specs.Readings.{AreTooMany, names_of}
+use Rattle.ps_store.specs.Readings.{AreTooMany, asker_bucket_names}
 use Rattle.ps_session.specs.declared.phases.Phase.{Phase}
 use Rattle.ps_session.specs.declared.phases.Phase.TheVariants.{Start, Download, Void, Done}
 use Rattle.ps_session.specs.Sessions.{SessionState, behind}
@@ -63,7 +63,7 @@ pub record IsTurn (fixed : Fixed) (history : List Event) (asker : Asker) (at : �
       (passed_in old.phase (course_of fixed.rules history asker) (length history) old) ≡ outcome
   pub line_is : line_in outcome ≡ (turn (course_of fixed.rules history asker) (length history) old).line
   pub told : IsToldIn old.phase (course_of fixed.rules history asker) (length history)
-  pub few : takes_in old.phase ≡ true → length (names_of (ledger_of fixed.rules history) asker) ≤ fixed.limits.buckets
+  pub few : takes_in old.phase ≡ true → length (asker_bucket_names (ledger_of fixed.rules history) asker) ≤ fixed.limits.buckets
   pub under_way : IsUnderWay (course_of fixed.rules history asker) (length history) (at_after old.phase at (length history)) new
 
 -- or none was made, and the session is as it was: too many buckets only where a checkpoint was to be taken

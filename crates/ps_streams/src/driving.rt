@@ -11,12 +11,12 @@ ghost use Rattle.ps_session.specs.Sessions.{IsTaking, next_action};
 ghost use Rattle.ps_streams.specs.Serving.{IsValid};
 ghost use Rattle.ps_streams.specs.Turning.{HasTurned, IsTurn, IsUnderWay, IsWritableOutcome, TurnsSo};
 
+use crate::laws;
 use crate::outcomes::{TurnOutcome, outcome_of};
 use crate::readings::Readings;
-use crate::stream_laws::calls_make_turns;
 use ps_data::OpId;
 use ps_session::{Action, Session};
-use ps_store::{Store, TakeFault, courses_are_lawful, places_are_fronts};
+use ps_store::{Store, TakeFault};
 use std::alloc::Global;
 
 // Takes a checkpoint.
@@ -34,9 +34,9 @@ fn take<R: Readings>(
     ensures writable { IfOk result IsWritableOutcome }
     ensures asker { session.new.asker ≡ session.old.asker }
 {
-    calls_make_turns();
-    courses_are_lawful();
-    places_are_fronts();
+    laws::calls_make_turns();
+    ps_store::laws::courses_are_lawful();
+    ps_store::laws::places_are_fronts();
     let taken = readings.take(alloc, session.asker())?;
     let line = session.took(alloc, taken)?;
     Ok(outcome_of(line, None))
@@ -60,9 +60,9 @@ fn read<R: Readings>(
     ensures writable { IfOk result IsWritableOutcome }
     ensures asker { session.new.asker ≡ session.old.asker }
 {
-    calls_make_turns();
-    courses_are_lawful();
-    places_are_fronts();
+    laws::calls_make_turns();
+    ps_store::laws::courses_are_lawful();
+    ps_store::laws::places_are_fronts();
     let batch = readings.read_batch(alloc, session.bucket_at(place), after, upto)?;
     let passed = batch.passed;
     let line = session.read(alloc, batch)?;
@@ -80,8 +80,8 @@ fn finish(session: &mut Session) -> TurnOutcome
     ensures writable { IsWritableOutcome result }
     ensures asker { session.new.asker ≡ session.old.asker }
 {
-    calls_make_turns();
-    courses_are_lawful();
+    laws::calls_make_turns();
+    ps_store::laws::courses_are_lawful();
     let line = session.finish();
     outcome_of(Some(line), None)
 }

@@ -4,7 +4,7 @@ ghost use Rattle.std.specs.Prelude.{◌++◌, List, [], IfOk, ◌≡◌};
 ghost use Rattle.ps_store.specs.declared.events.Event.{Event as EventSeen};
 ghost use Rattle.ps_store.specs.declared.fixed.Fixed.{Fixed as FixedSeen};
 ghost use Rattle.ps_store.specs.Ledgers.{ledger_of};
-ghost use Rattle.ps_store.specs.Readings.{Takes, batch_of};
+ghost use Rattle.ps_store.specs.Readings.{TakesCheckpoint, batch_of};
 ghost use Rattle.ps_streams.specs.Serving.{IsValid};
 
 use ps_bucket_log::{Batch, Taken};
@@ -27,7 +27,7 @@ pub trait Readings {
     fn take(&mut self, alloc: Global, asker: &Asker) -> Result<Taken, TakeFault>
         requires { (fixed : FixedSeen) × (history : List EventSeen) × stands self.old fixed history }
         ensures { (fixed : FixedSeen) (history : List EventSeen) → stands self.old fixed history
-            → (more : List EventSeen) × may_come self.old more × stands self.new fixed (history ++ more) × Takes fixed (history ++ more) asker.now result };
+            → (more : List EventSeen) × may_come self.old more × stands self.new fixed (history ++ more) × TakesCheckpoint fixed (history ++ more) asker.now result };
 
     /// The next operations of a bucket with ids past `after` and up to `upto`, as many as one batch may have; an empty batch
     /// for a bucket that is not there.

@@ -7,8 +7,8 @@ use Rattle.ps_answers.specs.Heads.{BeginsNoHead}
 use Rattle.ps_answers.specs.Lines.{line_limit}
 use Rattle.ps_syncing.specs.declared.faults.SyncFault.{SyncFault}
 use Rattle.ps_syncing.specs.declared.faults.SyncFault.TheVariants.{ConnectionFailed, NoCheckpoint, Answered, Altered, LineTooLong, Memory}
-use Rattle.ps_syncing.specs.Beginnings.{Begins}
-use Rattle.ps_syncing.specs.Exchanges.{Answers, HasNoHead, Sees, given_of, ended_of}
+use Rattle.ps_syncing.specs.Beginnings.{BeginsExchange}
+use Rattle.ps_syncing.specs.Exchanges.{AnswersExchange, HasNoHead, Sees, given_of, ended_of}
 
 -- a new reader of a source stands behind what that has handed out
 pub HasGiven-started : (input : Option Input) (left : List ℕ) → left ≡ [] → HasGiven input (given_of input ++ left)
@@ -31,7 +31,7 @@ HasNoHead-begins input taken left few (inr (none, inl long)) = record { begins =
 HasNoHead-begins input taken left few (inr (none, inr ended)) = record { begins = inr (none, inr (ended_of-has input ended)); few = few }
 
 -- the fault of a first part is the answer's
-pub Answers-begun : (old new : Option Input) (request : List ℕ) (fault : SyncFault) → Begins old new request (Err fault) → Answers (Sees old new request) (Err fault)
+pub Answers-begun : (old new : Option Input) (request : List ℕ) (fault : SyncFault) → BeginsExchange old new request (Err fault) → AnswersExchange (Sees old new request) (Err fault)
 Answers-begun old new request ConnectionFailed said = tt
 Answers-begun old new request NoCheckpoint said = (said.0, said.1, inl said.2)
 Answers-begun old new request (Answered status) said = said

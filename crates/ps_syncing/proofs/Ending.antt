@@ -6,7 +6,7 @@ use Rattle.ps_io.specs.Counts.{Rose}
 use Rattle.ps_rows.specs.declared.changes.Change.{Change}
 use Rattle.ps_doors.specs.Connections.{Connection}
 use Rattle.ps_client_log.specs.Kept.{Kept}
-use Rattle.ps_client_log.specs.Keeping.{Tells as TellsKept}
+use Rattle.ps_client_log.specs.Keeping.{TellsKept as TellsKept}
 use Rattle.ps_client.specs.Clients.{PlainClient}
 use Rattle.ps_files.specs.declared.faults.Fault.TheVariants.{Usage, Rules, Change as ChangeLine, PastLimit, TooManyBuckets, Claims, Keys, TooLong, CannotRead, CannotWrite, Script, Memory}
 use Rattle.ps_syncing.specs.declared.faults.SyncFault.{SyncFault}

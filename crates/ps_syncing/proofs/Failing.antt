@@ -9,8 +9,8 @@ use Rattle.ps_client.specs.Clients.{PlainClient, asked}
 use Rattle.ps_syncing.specs.declared.faults.SyncFault.{SyncFault}
 use Rattle.ps_syncing.specs.declared.faults.SyncFault.TheVariants.{ConnectionFailed, NoCheckpoint, Answered, Altered, LineTooLong, Memory}
 use Rattle.ps_syncing.specs.declared.services.Service.{Service}
-use Rattle.ps_syncing.specs.Exchanges.{Answers, Exchange, Closes, ClosesOne, HasNoHead, exchanges_in}
-use Rattle.ps_syncing.specs.Numbers.{IsUnformed, Numbers, upload_of, number_of}
+use Rattle.ps_syncing.specs.Exchanges.{AnswersExchange, Exchange, Closes, ClosesOne, HasNoHead, exchanges_in}
+use Rattle.ps_syncing.specs.Numbers.{IsUnformed, Numbers, upload_request, request_for_number}
 use Rattle.ps_syncing.specs.Runs.{AreShort, IsShort, ClosesLast, ClosesRefused, FailsSo, IsLost, IsStreamWith}
 use Rattle.ps_syncing.specs.Streams.{ClosesStream, EndsOpen, ExceedsLine, IsAltered, IsStreamRequest, Streams}
 
@@ -76,24 +76,24 @@ only Holds Last old new request so (one, closed, asks, holds) = record { exchang
 
 -- of an upload
 pub FailsSo-upload : (service : Service) (change : Change) (old new : Option (List Connection)) (fault : SyncFault)
-    → Numbers (ClosesOne old new (upload_of service change)) position_in (Err fault) → FailsSo service old new fault
+    → Numbers (ClosesOne old new (upload_request service change)) position_in (Err fault) → FailsSo service old new fault
 FailsSo-upload service change old new ConnectionFailed said = tt
 FailsSo-upload service change old new NoCheckpoint said =
-    only (IsUnformed position_in) (IsLost service) old new (upload_of service change)
+    only (IsUnformed position_in) (IsLost service) old new (upload_request service change)
     (λ one asks unformed. inl (record { change = change; asks = asks; unformed = unformed })) said
-FailsSo-upload service change old new (Answered status) said = only _ _ old new (upload_of service change) (λ one asks holds. holds) said
+FailsSo-upload service change old new (Answered status) said = only _ _ old new (upload_request service change) (λ one asks holds. holds) said
 FailsSo-upload service change old new Altered said = absurd said
 FailsSo-upload service change old new (LineTooLong seen) said = absurd said
 FailsSo-upload service change old new Memory said = tt
 
 -- of a request for a write checkpoint
 pub FailsSo-number : (service : Service) (old new : Option (List Connection)) (fault : SyncFault)
-    → Numbers (ClosesOne old new (number_of service)) checkpoint_in (Err fault) → FailsSo service old new fault
+    → Numbers (ClosesOne old new (request_for_number service)) checkpoint_in (Err fault) → FailsSo service old new fault
 FailsSo-number service old new ConnectionFailed said = tt
 FailsSo-number service old new NoCheckpoint said =
-    only (IsUnformed checkpoint_in) (IsLost service) old new (number_of service)
+    only (IsUnformed checkpoint_in) (IsLost service) old new (request_for_number service)
     (λ one asks unformed. inr (inl (record { asks = asks; unformed = unformed }))) said
-FailsSo-number service old new (Answered status) said = only _ _ old new (number_of service) (λ one asks holds. holds) said
+FailsSo-number service old new (Answered status) said = only _ _ old new (request_for_number service) (λ one asks holds. holds) said
 FailsSo-number service old new Altered said = absurd said
 FailsSo-number service old new (LineTooLong seen) said = absurd said
 FailsSo-number service old new Memory said = tt
@@ -121,7 +121,7 @@ FailsSo-stream service client after old new Memory said = tt
 -- a fault of an answer is that of an answer with a number
 pub Numbers-failed : (Known : (Exchange → Type 0) → Type 0) (read : List ℕ → Option ℕ) (fault : SyncFault)
     → ((Holds Other : Exchange → Type 0) → ((one : Exchange) → Holds one → Other one) → Known Holds → Known Other)
-    → Answers Known (Err fault) → Numbers Known read (Err fault)
+    → AnswersExchange Known (Err fault) → Numbers Known read (Err fault)
 Numbers-failed Known read ConnectionFailed so said = tt
 Numbers-failed Known read NoCheckpoint so said = so _ _ (λ one lost. elim lost [ inl no_head ↦ inl no_head | inr no_body ↦ inr (inl no_body) ]) said
 Numbers-failed Known read (Answered status) so said = said

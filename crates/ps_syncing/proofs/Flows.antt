@@ -3,7 +3,7 @@ use Rattle.std.proofs.Common.{◌≡◌, ◌≢◌, ℕ, ◌≤◌, length, List
 use Rattle.std.proofs.lemmas.List.{append-nil, flat_map_more}
 use Rattle.ps_io.specs.Sources.{Input}
 use Rattle.ps_answers.specs.Givings.{HasGiven}
-use Rattle.ps_answers.specs.Lines.{line_limit, lines_text, with_feed}
+use Rattle.ps_answers.specs.Lines.{line_limit, lines_with_feeds, with_feed}
 use Rattle.ps_answers.specs.Readers.{left_of}
 use Rattle.ps_client.specs.Clients.{PlainClient}
 use Rattle.ps_client.specs.declared.events.Event.{Event}
@@ -12,11 +12,11 @@ use Rattle.ps_syncing.specs.declared.faults.SyncFault.{SyncFault}
 use Rattle.ps_syncing.specs.declared.faults.SyncFault.TheVariants.{ConnectionFailed, NoCheckpoint, Answered, Altered, LineTooLong, Memory}
 use Rattle.ps_syncing.specs.declared.streams.Ended.{Ended}
 use Rattle.ps_syncing.specs.declared.streams.Ended.TheVariants as ended
-use Rattle.ps_syncing.specs.Beginnings.{Begins, HasBegun}
+use Rattle.ps_syncing.specs.Beginnings.{BeginsExchange, AnswerHasBegun}
 use Rattle.ps_syncing.specs.Exchanges.{Exchange, Sees, given_of, ended_of}
-use Rattle.ps_syncing.specs.Lines.{Comes, Flowing, LeavesFew, TakesNext, Tells}
+use Rattle.ps_syncing.specs.Lines.{Comes, Flowing, LeavesFew, TakesNext, ClientTells}
 use Rattle.ps_syncing.proofs.Beginning.{ended_of-has}
-use Rattle.ps_syncing.specs.Streams.{no_lines, next_line, Flows, GoesOn, Streams}
+use Rattle.ps_syncing.specs.Streams.{no_lines, next_line, Flows, StreamGoesOn, Streams}
 
 -- ---- the order of bytes
 
@@ -27,7 +27,7 @@ ordered_line : (a b c d e : List ℕ) → (((a ++ b) ++ c) ++ d) ++ e ≡ a ++ (
 ordered_line a b c d e = simp append_assoc
 
 more_lines : (a : List ℕ) (lines : List (List ℕ)) (line left : List ℕ)
-    → ((a ++ lines_text lines) ++ with_feed line) ++ left ≡ (a ++ lines_text (lines ++ line ∷ [])) ++ left
+    → ((a ++ lines_with_feeds lines) ++ with_feed line) ++ left ≡ (a ++ lines_with_feeds (lines ++ line ∷ [])) ++ left
 more_lines a lines line left = ap (λ v. v ++ left) (flat_map_more with_feed a lines line)
 
 -- ---- what is left
@@ -43,7 +43,7 @@ LeavesFew-any left (Err Memory) few = few
 
 -- ---- how it begins, and goes on
 
-pub Flowing-begun : (old now : Option Input) (begun : Begun) (client : PlainClient) → HasBegun old now begun → Flowing old now client client (left_of begun.reader)
+pub Flowing-begun : (old now : Option Input) (begun : Begun) (client : PlainClient) → AnswerHasBegun old now begun → Flowing old now client client (left_of begun.reader)
 Flowing-begun old now begun client has = record {
   head = has.head;
   front = has.front;
@@ -57,11 +57,11 @@ Flowing-begun old now begun client has = record {
 
 -- the bytes before what is left
 abbrev pub before_left : {old now : Option Input} {was is : PlainClient} {left : List ℕ} → Flowing old now was is left → List ℕ
-before_left {old} flows = given_of old ++ flows.front ++ lines_text flows.lines
+before_left {old} flows = given_of old ++ flows.front ++ lines_with_feeds flows.lines
 
 pub Flowing-next : (old mid new : Option Input) (was before after : PlainClient) (left left' line : List ℕ) (event : Event)
-    → (flows : Flowing old mid was before left) → Comes new (given_of old ++ flows.front ++ lines_text flows.lines) left' line
-    → Tells before after line event → GoesOn event → length left' ≤ line_limit → Flowing old new was after left'
+    → (flows : Flowing old mid was before left) → Comes new (given_of old ++ flows.front ++ lines_with_feeds flows.lines) left' line
+    → ClientTells before after line event → StreamGoesOn event → length left' ≤ line_limit → Flowing old new was after left'
 Flowing-next old mid new was before after left left' line event flows comes tells goes few = record {
   head = flows.head;
   front = flows.front;
@@ -77,7 +77,7 @@ Flowing-next old mid new was before after left left' line event flows comes tell
 
 -- the exchange so far, with what stands behind its lines
 at_end : (old mid : Option Input) (was before : PlainClient) (left : List ℕ) (flows : Flowing old mid was before left) (input : Option Input) (request behind : List ℕ)
-    → Flows (record { taken = request; given = flows.front ++ (lines_text flows.lines ++ behind); ended = ended_of input }) was before behind
+    → Flows (record { taken = request; given = flows.front ++ (lines_with_feeds flows.lines ++ behind); ended = ended_of input }) was before behind
 at_end old mid was before left flows input request behind = record {
   head = flows.head;
   front = flows.front;
@@ -91,11 +91,11 @@ at_end old mid was before left flows input request behind = record {
 -- by a line that was taken
 pub Streams-ended : (old mid new : Option Input) (request : List ℕ) (was before after : PlainClient) (left left' : List ℕ)
     → (flows : Flowing old mid was before left) → (end : Ended)
-    → TakesNext new (given_of old ++ flows.front ++ lines_text flows.lines) left' before after (Ok (Some end)) → length left' ≤ line_limit
+    → TakesNext new (given_of old ++ flows.front ++ lines_with_feeds flows.lines) left' before after (Ok (Some end)) → length left' ≤ line_limit
     → Streams (Sees old new request) was after (Ok end)
 Streams-ended old mid new request was before after left left' flows ended.Applied (line, comes, op, tells) few = (
-  flows.front ++ (lines_text flows.lines ++ (with_feed line ++ left')),
-  subst (HasGiven new) (ordered_line (given_of old) flows.front (lines_text flows.lines) (with_feed line) left') comes.given,
+  flows.front ++ (lines_with_feeds flows.lines ++ (with_feed line ++ left')),
+  subst (HasGiven new) (ordered_line (given_of old) flows.front (lines_with_feeds flows.lines) (with_feed line) left') comes.given,
   (
     op,
     record {
@@ -110,8 +110,8 @@ Streams-ended old mid new request was before after left left' flows ended.Applie
   ),
 )
 Streams-ended old mid new request was before after left left' flows ended.Refused (line, comes, buckets, tells) few = (
-  flows.front ++ (lines_text flows.lines ++ (with_feed line ++ left')),
-  subst (HasGiven new) (ordered_line (given_of old) flows.front (lines_text flows.lines) (with_feed line) left') comes.given,
+  flows.front ++ (lines_with_feeds flows.lines ++ (with_feed line ++ left')),
+  subst (HasGiven new) (ordered_line (given_of old) flows.front (lines_with_feeds flows.lines) (with_feed line) left') comes.given,
   (
     buckets,
     record {
@@ -129,12 +129,12 @@ Streams-ended old mid new request was before after left left' flows ended.Refuse
 -- by a fault
 pub Streams-failed : (old mid new : Option Input) (request : List ℕ) (was before after : PlainClient) (left left' : List ℕ)
     → (flows : Flowing old mid was before left) → (fault : SyncFault)
-    → TakesNext new (given_of old ++ flows.front ++ lines_text flows.lines) left' before after (Err fault) → LeavesFew left' (Err fault)
+    → TakesNext new (given_of old ++ flows.front ++ lines_with_feeds flows.lines) left' before after (Err fault) → LeavesFew left' (Err fault)
     → Streams (Sees old new request) was after (Err fault)
 Streams-failed old mid new request was before after left left' flows ConnectionFailed taken few = tt
 Streams-failed old mid new request was before after left left' flows NoCheckpoint taken few = (
-  flows.front ++ (lines_text flows.lines ++ left'),
-  subst (HasGiven new) (ordered (given_of old) flows.front (lines_text flows.lines) left') taken.given,
+  flows.front ++ (lines_with_feeds flows.lines ++ left'),
+  subst (HasGiven new) (ordered (given_of old) flows.front (lines_with_feeds flows.lines) left') taken.given,
   inr (record {
     now = before;
     behind = left';
@@ -145,8 +145,8 @@ Streams-failed old mid new request was before after left left' flows NoCheckpoin
 )
 Streams-failed old mid new request was before after left left' flows (Answered status) taken few = absurd taken
 Streams-failed old mid new request was before after left left' flows Altered (line, comes, fault, refused) few = (
-  flows.front ++ (lines_text flows.lines ++ (with_feed line ++ left')),
-  subst (HasGiven new) (ordered_line (given_of old) flows.front (lines_text flows.lines) (with_feed line) left') comes.given,
+  flows.front ++ (lines_with_feeds flows.lines ++ (with_feed line ++ left')),
+  subst (HasGiven new) (ordered_line (given_of old) flows.front (lines_with_feeds flows.lines) (with_feed line) left') comes.given,
   record {
     before = before;
     line = line;
@@ -159,8 +159,8 @@ Streams-failed old mid new request was before after left left' flows Altered (li
   },
 )
 Streams-failed old mid new request was before after left left' flows (LineTooLong seen) (bytes, given, long) few = (
-  flows.front ++ (lines_text flows.lines ++ bytes),
-  subst (HasGiven new) (ordered (given_of old) flows.front (lines_text flows.lines) bytes) given,
+  flows.front ++ (lines_with_feeds flows.lines ++ bytes),
+  subst (HasGiven new) (ordered (given_of old) flows.front (lines_with_feeds flows.lines) bytes) given,
   record { now = before; behind = bytes; flows = at_end old mid was before left flows new request bytes; long = long },
 )
 Streams-failed old mid new request was before after left left' flows Memory taken few = tt
@@ -180,7 +180,7 @@ Streams-known Took Seen Known so was is (Err (LineTooLong seen)) took said = so 
 Streams-known Took Seen Known so was is (Err Memory) took said = tt
 
 -- a fault of the first part of an answer ends the stream
-pub Streams-begun : (old new : Option Input) (request : List ℕ) (was is : PlainClient) (fault : SyncFault) → Begins old new request (Err fault)
+pub Streams-begun : (old new : Option Input) (request : List ℕ) (was is : PlainClient) (fault : SyncFault) → BeginsExchange old new request (Err fault)
     → Streams (Sees old new request) was is (Err fault)
 Streams-begun old new request was is ConnectionFailed said = tt
 Streams-begun old new request was is NoCheckpoint said = (said.0, said.1, inl said.2)

@@ -1,6 +1,6 @@
 -- What a meter hears in parts.
 use Rattle.std.proofs.Common.{◌≡◌, ℕ, List, Option, Some, None, Ok, Err, Result, sym, subst}
-use Rattle.ps_progress.specs.Meters.{Ends, Heeds, Hears, Seen, nothing, line, end}
+use Rattle.ps_progress.specs.Meters.{EndsMeter, Heeds, Hears, Seen, nothing, line, end}
 use Rattle.ps_syncing.specs.declared.faults.SyncFault.{SyncFault}
 use Rattle.ps_syncing.specs.declared.streams.Ended.{Ended}
 use Rattle.ps_syncing.specs.Lines.{HearsPart}
@@ -14,7 +14,7 @@ pub hears_nothing : (a : Seen) → Hears a a
 hears_nothing a = nothing
 
 -- the end of a stream, behind what was heard
-pub hears_end : (a b c : Seen) → Hears a b → Ends b c → Hears a c
+pub hears_end : (a b c : Seen) → Hears a b → EndsMeter b c → Hears a c
 hears_end a b c first ends = end b c first ends
 
 same_hears : (a b : Seen) → b ≡ a → Hears a b

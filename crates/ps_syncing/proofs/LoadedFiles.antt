@@ -14,7 +14,7 @@ use Rattle.ps_files.specs.declared.faults.Fault.TheVariants.{Usage, Rules, Chang
 use Rattle.ps_syncing.specs.declared.stops.Stop.{Stop}
 use Rattle.ps_syncing.specs.declared.stops.Stop.TheVariants.{Shared, Token, ConnectionFailed, NoCheckpoint, Answered, Altered}
 use Rattle.ps_syncing.specs.declared.words.Named.{Named}
-use Rattle.ps_syncing.specs.Inputs.{ReadsAs, changes_of}
+use Rattle.ps_syncing.specs.Inputs.{ReadsAs, file_changes}
 use Rattle.ps_syncing.specs.Preparing.{LoadsSo, LoadsToken, LoadsUpload, LoadsUploads, ReadsTokenSo, ReadsUploadSo}
 use Rattle.ps_syncing.specs.Syncing.{RefusesFiles, TokenRead}
 
@@ -43,7 +43,7 @@ LoadsToken-read held name before now bytes (Err stop) file (inl none) =
 LoadsToken-read held name before now bytes (Err stop) file (inr is) = subst (λ (v : Stop). LoadsToken held name before now (Err v)) (sym is) tt
 
 bad_line : (held : Option Contents) (name : List ℕ) (before now : ℕ) (bytes : List ℕ) (line : ℕ) (fault : ChangeFault) → HoldsWithin held name file_limit bytes
-    → changes_of bytes ≡ Err (record { line = line; fault = fault }) → LoadsUpload held name before now (Err (Shared (line_fault line fault)))
+    → file_changes bytes ≡ Err (record { line = line; fault = fault }) → LoadsUpload held name before now (Err (Shared (line_fault line fault)))
 bad_line held name before now bytes line (change.LineTooLong seen) file is = (bytes, file, (record { line = line; fault = change.LineTooLong seen }, refl, is))
 bad_line held name before now bytes line change.BadJson file is = (bytes, file, (record { line = line; fault = change.BadJson }, refl, is))
 bad_line held name before now bytes line change.BadShape file is = (bytes, file, (record { line = line; fault = change.BadShape }, refl, is))
@@ -60,7 +60,7 @@ LoadsUpload-read held name before now bytes (Err stop) file (inl bad) =
 LoadsUpload-read held name before now bytes (Err stop) file (inr is) = subst (λ (v : Stop). LoadsUpload held name before now (Err v)) (sym is) tt
 
 -- a line that is refused
-pub ReadsUploadSo-refused : (bytes : List ℕ) (line : ℕ) (fault : ChangeFault) → ReadsAs {X = List Change} (Err (record { line = line; fault = fault })) (changes_of bytes)
+pub ReadsUploadSo-refused : (bytes : List ℕ) (line : ℕ) (fault : ChangeFault) → ReadsAs {X = List Change} (Err (record { line = line; fault = fault })) (file_changes bytes)
     → ReadsUploadSo bytes (Err (Shared (line_fault line fault)))
 ReadsUploadSo-refused bytes line (change.LineTooLong seen) is = inl (record { line = line; fault = change.LineTooLong seen }, refl, is)
 ReadsUploadSo-refused bytes line change.BadJson is = inl (record { line = line; fault = change.BadJson }, refl, is)

@@ -10,7 +10,7 @@ use Rattle.httparse.specs.Grammar.{LineEnd, ResponseHead, crlf, lf, print_blank,
 use Rattle.ps_rows.specs.declared.changes.Change.{Change}
 use Rattle.ps_doors.specs.Connections.{Connection}
 use Rattle.ps_answers.specs.Heads.{IsAnswerHead}
-use Rattle.ps_answers.specs.Lines.{FitsLine, HoldsLongLine, line_limit, lines_text, with_feed}
+use Rattle.ps_answers.specs.Lines.{FitsLine, HoldsLongLine, line_limit, lines_with_feeds, with_feed}
 use Rattle.ps_answers.specs.Requests.{first_lines, number_text, post_text, stream_text, upload_text}
 use Rattle.ps_answers.specs.declared.heads.AnswerHead.{AnswerHead}
 use Rattle.ps_client_log.specs.Kept.{Kept}
@@ -22,10 +22,10 @@ use Rattle.ps_syncing.specs.declared.services.Service.{Service}
 use Rattle.ps_syncing.specs.declared.stops.Stop.{Stop}
 use Rattle.ps_syncing.specs.declared.stops.Stop.TheVariants.{Shared, Token, ConnectionFailed, NoCheckpoint, Answered, Altered}
 use Rattle.ps_syncing.specs.declared.words.Named.{Named}
-use Rattle.ps_syncing.specs.Exchanges.{Closes, Exchange, HasNoHead, IsRefused, exchange_of}
+use Rattle.ps_syncing.specs.Exchanges.{Closes, Exchange, HasNoHead, ExchangeIsRefused, exchange_of}
 use Rattle.ps_syncing.specs.Laws.{EndsAtFive, FiveForALongLine, HasLongStream}
 use Rattle.ps_syncing.specs.Runs.{AimsWhere, AreRefused, AreShort, AreStreams, AreUploads, ClosesLast, ClosesRefused, IsLost, IsShort, IsStreamWith, emptied, next, none, written_all}
-use Rattle.ps_syncing.specs.Saying.{status_of}
+use Rattle.ps_syncing.specs.Saying.{stop_status}
 use Rattle.ps_syncing.specs.Steps.{AimsAt, IsSynced, UploadsAll}
 use Rattle.ps_syncing.specs.Streams.{EndsBy, EndsOpen, Flows, IsAltered, Passes, next_line, no_lines}
 use Rattle.ps_syncing.specs.Syncing.{Causes, IsDone, Outside, StopsBy}
@@ -75,12 +75,12 @@ behind_feed piece rest fits long =
     ]
 
 -- it stands behind lines that are within their limit
-behind_lines : (lines : List (List ℕ)) (behind : List ℕ) → All FitsLine lines → HoldsLongLine (lines_text lines ++ behind) → HoldsLongLine behind
+behind_lines : (lines : List (List ℕ)) (behind : List ℕ) → All FitsLine lines → HoldsLongLine (lines_with_feeds lines ++ behind) → HoldsLongLine behind
 behind_lines [] behind fit long = long
 behind_lines (line ∷ lines) behind fit long =
     behind_lines lines behind (All-tail FitsLine line lines fit)
-    (behind_feed line (lines_text lines ++ behind) (All-head FitsLine line lines fit).1
-    (subst HoldsLongLine (append_assoc (with_feed line) (lines_text lines) behind) long))
+    (behind_feed line (lines_with_feeds lines ++ behind) (All-head FitsLine line lines fit).1
+    (subst HoldsLongLine (append_assoc (with_feed line) (lines_with_feeds lines) behind) long))
 
 -- ---- heads
 
@@ -117,7 +117,7 @@ lines_fit (next_line lines line before after event passed fits taken goes) = All
 behind_flow : (one : Exchange) (old now : PlainClient) (behind : List ℕ) → Flows one old now behind → HoldsLongLine one.given → HoldsLongLine behind
 behind_flow one old now behind flows long =
     behind_lines flows.lines behind (lines_fit flows.passed)
-    (behind_head flows.front (lines_text flows.lines ++ behind) flows.head flows.is_head (subst HoldsLongLine flows.bytes long))
+    (behind_head flows.front (lines_with_feeds flows.lines ++ behind) flows.head flows.is_head (subst HoldsLongLine flows.bytes long))
 
 short_ended : (one : Exchange) (old : PlainClient) (event : Event) (new : PlainClient) → EndsBy one old event new → IsShort one
 short_ended one old event new ends long =
@@ -132,7 +132,7 @@ short_altered one old ends long =
     few_bytes ends.rest ends.few
     (behind_feed ends.line ends.rest ends.whole.1 (behind_flow one old ends.before (with_feed ends.line ++ ends.rest) ends.flows long.long))
 
-short_refusal : (one : Exchange) (status : ℕ) → IsRefused one status → IsShort one
+short_refusal : (one : Exchange) (status : ℕ) → ExchangeIsRefused one status → IsShort one
 short_refusal one status refused long =
     few_bytes refused.behind refused.few
     (behind_head refused.headed.front refused.behind refused.headed.head refused.headed.is_head (subst HoldsLongLine refused.headed.bytes long.long))
@@ -249,7 +249,7 @@ not_done o named text has done = not_short o has (closes_synced done.service don
 not_unasked : (o : Outside) → HasLongStream o → o.closed_now ≡ o.closed_before → ⊥
 not_unasked o has same = not_short o has (closes_none o.closed_before o.closed_now same)
 
-cause_decides : (o : Outside) (named : Named) (stop : Stop) → HasLongStream o → Causes o named stop → EndsAtFive o (status_of stop)
+cause_decides : (o : Outside) (named : Named) (stop : Stop) → HasLongStream o → Causes o named stop → EndsAtFive o (stop_status stop)
 cause_decides o named (Shared Usage) has causes = absurd causes
 cause_decides o named (Shared (Rules which line column why)) has causes = absurd causes
 cause_decides o named (Shared (ChangeLine line why)) has causes = absurd (not_unasked o has causes.0.1)
@@ -267,7 +267,7 @@ cause_decides o named ConnectionFailed has causes = inr (inl (refl, causes.2))
 cause_decides o named NoCheckpoint has (unprinted, failed) =
     absurd (not_short o has (closes_last o.closed_before o.closed_now (IsLost failed.service) (short_lost failed.service) failed.fails))
 cause_decides o named (Answered status) has (unprinted, failed) =
-    absurd (not_short o has (closes_last o.closed_before o.closed_now (λ one. IsRefused one status) (λ one refused. short_refusal one status refused) failed.fails))
+    absurd (not_short o has (closes_last o.closed_before o.closed_now (λ one. ExchangeIsRefused one status) (λ one refused. short_refusal one status refused) failed.fails))
 cause_decides o named Altered has (unprinted, failed) =
     elim failed.fails [
       | inl last ↦ absurd (not_short o has (closes_last o.closed_before o.closed_now (IsStreamWith failed.service (λ client one. IsAltered one client))
@@ -275,10 +275,10 @@ cause_decides o named Altered has (unprinted, failed) =
       | inr eight ↦ absurd (not_short o has (closes_refused failed.service o.closed_before o.closed_now eight))
     ]
 
-stop_decides : (o : Outside) (words : List (List ℕ)) (stop : Stop) → HasLongStream o → StopsBy o words stop → EndsAtFive o (status_of stop)
+stop_decides : (o : Outside) (words : List (List ℕ)) (stop : Stop) → HasLongStream o → StopsBy o words stop → EndsAtFive o (stop_status stop)
 stop_decides o words stop has (inl refused) = absurd (not_unasked o has refused.0.1)
 stop_decides o words stop has (inr (inl (named, is, causes))) = cause_decides o named stop has causes
-stop_decides o words stop has (inr (inr (unprinted, memory))) = inr (inr (ap status_of memory))
+stop_decides o words stop has (inr (inr (unprinted, memory))) = inr (inr (ap stop_status memory))
 
 pub five_for_a_long_line : FiveForALongLine
 five_for_a_long_line o words e status has (inl (zero, done, quiet)) = absurd (not_done o done.named done.text has done.done)

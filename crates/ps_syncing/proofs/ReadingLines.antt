@@ -9,7 +9,7 @@ use Rattle.ps_changes.specs.declared.faults.ChangeFault.{ChangeFault}
 use Rattle.ps_changes.specs.declared.faults.ChangeFault.TheVariants.{LineTooLong, BadJson, BadShape, BadPosition, BadValue, Memory}
 use Rattle.ps_file_lines.specs.Lines.{is_blank, lines_of}
 use Rattle.ps_syncing.specs.declared.inputs.Refused.{Refused}
-use Rattle.ps_syncing.specs.Inputs.{HasRead, ReadsAs, UnlessMemory, bytes_left, changes_from, changes_of, lines_left, numbered, ◌>>=◌}
+use Rattle.ps_syncing.specs.Inputs.{HasRead, ReadsAs, UnlessMemory, bytes_left, changes_from, file_changes, lines_left, change_at_line, ◌>>=◌}
 
 -- the first line and what is left behind it
 abbrev pub SplitsLine : List ℕ → List ℕ → Option (Bor (List ℕ)) → Type 0
@@ -42,35 +42,35 @@ UnlessMemory-wanting fault A is = subst (λ v. UnlessMemory v A) (sym is) tt
 
 -- a fault of a line is that of what it means
 pub ReadsAs-refused : (number : ℕ) (fault : ChangeFault) (meant : Result Change ChangeFault) → Reads (Err fault) meant
-    → ReadsAs (Err (record { line = number; fault = fault })) (numbered number meant)
-ReadsAs-refused number (LineTooLong seen) meant is = ap (numbered number) is
-ReadsAs-refused number BadJson meant is = ap (numbered number) is
-ReadsAs-refused number BadShape meant is = ap (numbered number) is
-ReadsAs-refused number BadPosition meant is = ap (numbered number) is
-ReadsAs-refused number BadValue meant is = ap (numbered number) is
+    → ReadsAs (Err (record { line = number; fault = fault })) (change_at_line number meant)
+ReadsAs-refused number (LineTooLong seen) meant is = ap (change_at_line number) is
+ReadsAs-refused number BadJson meant is = ap (change_at_line number) is
+ReadsAs-refused number BadShape meant is = ap (change_at_line number) is
+ReadsAs-refused number BadPosition meant is = ap (change_at_line number) is
+ReadsAs-refused number BadValue meant is = ap (change_at_line number) is
 ReadsAs-refused number Memory meant is = tt
 
 abbrev HasTable : Change → Type 0
 HasTable change = change.table ≢ []
 
 pub begun : (bytes : Bor (List ℕ)) → HasRead bytes.now 0 (Some bytes) []
-unfolding changes_of
+unfolding file_changes
 begun bytes = record { tables = All-nil HasTable; meaning = refl; counted = omega arith }
 
 module _ (all : List ℕ) (number : ℕ) (bytes : Bor (List ℕ)) (line : List ℕ) (rest : Option (Bor (List ℕ))) (done : List Change)
     (so_far : HasRead all number (Some bytes) done) (splits : SplitsLine bytes.now line rest) where
-  here : changes_of all ≡ changes_from done (number + 1) (line ∷ lines_left rest)
+  here : file_changes all ≡ changes_from done (number + 1) (line ∷ lines_left rest)
   here = so_far.meaning ∙ ap (changes_from done (number + 1)) (left_lines bytes.now line rest splits)
 
   fewer_left : number + 1 + bytes_left rest ≤ length all + 1
   fewer_left = omega (arith, so_far.counted, fewer bytes.now line rest splits)
 
-  full_line : (r : Result Change Refused) → is_blank line ≡ false → numbered (number + 1) (lone_change_of line) ≡ r
-      → changes_of all ≡ (r >>= λ change. changes_from (done ++ change ∷ []) (number + 1 + 1) (lines_left rest))
+  full_line : (r : Result Change Refused) → is_blank line ≡ false → change_at_line (number + 1) (lone_change_of line) ≡ r
+      → file_changes all ≡ (r >>= λ change. changes_from (done ++ change ∷ []) (number + 1 + 1) (lines_left rest))
   full_line r full is = here ∙ rw full (ap (λ x. x >>= λ change. changes_from (done ++ change ∷ []) (number + 1 + 1) (lines_left rest)) is)
 
   -- a change more is read
-  pub read_more : (change : Change) → is_blank line ≡ false → numbered (number + 1) (lone_change_of line) ≡ Ok change → change.table ≢ []
+  pub read_more : (change : Change) → is_blank line ≡ false → change_at_line (number + 1) (lone_change_of line) ≡ Ok change → change.table ≢ []
       → HasRead all (number + 1) rest (done ++ change ∷ [])
   read_more change full is table = record { tables = All-push HasTable done change so_far.tables table; meaning = full_line (Ok change) full is; counted = fewer_left }
 
@@ -78,6 +78,6 @@ module _ (all : List ℕ) (number : ℕ) (bytes : Bor (List ℕ)) (line : List �
   blank_read blank = record { tables = so_far.tables; meaning = here ∙ rw blank refl; counted = fewer_left }
 
   -- a line that is refused refuses the file
-  pub refuses_all : (refused : Refused) → is_blank line ≡ false → UnlessMemory refused.fault (numbered (number + 1) (lone_change_of line) ≡ Err refused)
-      → UnlessMemory refused.fault (changes_of all ≡ Err refused)
+  pub refuses_all : (refused : Refused) → is_blank line ≡ false → UnlessMemory refused.fault (change_at_line (number + 1) (lone_change_of line) ≡ Err refused)
+      → UnlessMemory refused.fault (file_changes all ≡ Err refused)
   refuses_all refused full is = UnlessMemory-so refused.fault _ _ (λ same. full_line (Err refused) full same) is

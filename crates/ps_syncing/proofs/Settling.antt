@@ -17,10 +17,10 @@ use Rattle.ps_syncing.specs.declared.services.Service.{Service}
 use Rattle.ps_syncing.specs.declared.stops.Stop.{Stop}
 use Rattle.ps_syncing.specs.declared.stops.Stop.TheVariants.{Shared, Token, ConnectionFailed, NoCheckpoint, Answered, Altered}
 use Rattle.ps_syncing.specs.declared.words.Named.{Named}
-use Rattle.ps_syncing.specs.Inputs.{changes_of}
+use Rattle.ps_syncing.specs.Inputs.{file_changes}
 use Rattle.ps_syncing.specs.Laws.{EndsAt, EndsWhere, FiveForALength, FourForNoToken, HasNoCause, OneForOtherWords, ThreeForALine, ZeroForNoCause}
-use Rattle.ps_syncing.specs.Saying.{SaysStop, status_of}
-use Rattle.ps_syncing.specs.Syncing.{Causes, EndsSo, ExceedsFile, HasDone, IsDone, IsFailed, IsNext, Outside, Prepares, ReadsChanges, ReadsToken, ReadsUpload, RefusesFiles, RefusesToken, RefusesUpload, StopsBy, TokenRead}
+use Rattle.ps_syncing.specs.Saying.{SaysStop, stop_status}
+use Rattle.ps_syncing.specs.Syncing.{Causes, EndsSo, ExceedsFile, HasDone, IsDone, IsFailed, IsNextInput, Outside, Prepares, ReadsChanges, ReadsToken, ReadsUpload, RefusesFiles, RefusesToken, RefusesUpload, StopsBy, TokenRead}
 use Rattle.ps_syncing.specs.Words.{sync_of}
 
 -- ---- what files hold is one text
@@ -56,10 +56,10 @@ no_token : (held : Option Contents) (files : Contents) (named : Named) → held 
 no_token held files named told refuses (token, read) =
     token_clash refuses.bytes read.bytes token (one_text held files named.token_file refuses.bytes read.bytes told refuses.file read.file) refuses.none read.read
 
-changes_clash : (a b : List ℕ) (refused : Refused) (changes : List Change) → a ≡ b → changes_of a ≡ Err refused → changes_of b ≡ Ok changes → ⊥
+changes_clash : (a b : List ℕ) (refused : Refused) (changes : List Change) → a ≡ b → file_changes a ≡ Err refused → file_changes b ≡ Ok changes → ⊥
 changes_clash a b refused changes same err ok = cc
 
-one_refused : (a b : List ℕ) (refused other : Refused) → a ≡ b → changes_of a ≡ Err refused → changes_of b ≡ Err other → refused ≡ other
+one_refused : (a b : List ℕ) (refused other : Refused) → a ≡ b → file_changes a ≡ Err refused → file_changes b ≡ Err other → refused ≡ other
 one_refused a b refused other same err again = cc
 
 -- a file to upload that is refused is not read
@@ -93,12 +93,12 @@ long_upload : (held : Option Contents) (files : Contents) (named : Named) (seen 
 long_upload held files named seen name other bytes told is long more upload file =
     not_too_long held files other bytes seen told (subst (λ n. HasLength held n seen) (one_of named.upload name other is upload) long) more file
 
-long_and_none : (held : Option Contents) (files : Contents) (named : Named) (seen : ℕ) (name : List ℕ) → held ≡ Some files → IsNext held named name
+long_and_none : (held : Option Contents) (files : Contents) (named : Named) (seen : ℕ) (name : List ℕ) → held ≡ Some files → IsNextInput held named name
     → HasLength held name seen → file_limit < seen → RefusesToken held named → ⊥
 long_and_none held files named seen name told (inl is) long more refuses = long_token held files named seen name refuses.bytes told is long more refuses.file
 long_and_none held files named seen name told (inr next) long more refuses = no_token held files named told refuses next.1
 
-long_and_refused : (held : Option Contents) (files : Contents) (named : Named) (seen : ℕ) (name : List ℕ) (fault : Fault) → held ≡ Some files → IsNext held named name
+long_and_refused : (held : Option Contents) (files : Contents) (named : Named) (seen : ℕ) (name : List ℕ) (fault : Fault) → held ≡ Some files → IsNextInput held named name
     → HasLength held name seen → file_limit < seen → RefusesUpload held named fault → ⊥
 long_and_refused held files named seen name fault told (inl is) long more refuses =
     long_token held files named seen name refuses.token.1.bytes told is long more refuses.token.1.file
@@ -106,7 +106,7 @@ long_and_refused held files named seen name fault told (inr next) long more refu
     long_upload held files named seen name refuses.name refuses.bytes told next.0 long more refuses.is refuses.file
 
 long_and_read : (held : Option Contents) (files : Contents) (named : Named) (seen : ℕ) (name : List ℕ) (service : Service) (changes : List Change) → held ≡ Some files
-    → IsNext held named name → HasLength held name seen → file_limit < seen → Prepares held named service changes → ⊥
+    → IsNextInput held named name → HasLength held name seen → file_limit < seen → Prepares held named service changes → ⊥
 long_and_read held files named seen name service changes told (inl is) long more prepares =
     long_token held files named seen name prepares.token.bytes told is long more prepares.token.file
 long_and_read held files named seen name service changes told (inr next) long more prepares =
@@ -166,7 +166,7 @@ line_or_limit : (line : ℕ) (why : LineFault) (limit : Limit) → ChangeLine li
 line_or_limit line why limit same = cc
 
 line_decides : (o : Outside) (files : Contents) (named : Named) (line : ℕ) (why : LineFault) (stop : Stop) → o.held ≡ Some files
-    → RefusesUpload o.held named (ChangeLine line why) → RefusesFiles o.held o.read_before o.read_now named stop → EndsAt 3 o (status_of stop)
+    → RefusesUpload o.held named (ChangeLine line why) → RefusesFiles o.held o.read_before o.read_now named stop → EndsAt 3 o (stop_status stop)
 line_decides o files named line why (Shared Usage) told refuses other = absurd other
 line_decides o files named line why (Shared (Rules which row column cause)) told refuses other = absurd other
 line_decides o files named line why (Shared (ChangeLine number cause)) told refuses other = inl refl
@@ -188,7 +188,7 @@ line_decides o files named line why (Answered status) told refuses other = absur
 line_decides o files named line why Altered told refuses other = absurd other
 
 limit_decides : (o : Outside) (files : Contents) (named : Named) (limit : Limit) (stop : Stop) → o.held ≡ Some files
-    → RefusesUpload o.held named (PastLimit limit) → RefusesFiles o.held o.read_before o.read_now named stop → EndsAt 5 o (status_of stop)
+    → RefusesUpload o.held named (PastLimit limit) → RefusesFiles o.held o.read_before o.read_now named stop → EndsAt 5 o (stop_status stop)
 limit_decides o files named limit (Shared Usage) told refuses other = absurd other
 limit_decides o files named limit (Shared (Rules which row column cause)) told refuses other = absurd other
 limit_decides o files named limit (Shared (ChangeLine line why)) told refuses other =
@@ -209,7 +209,7 @@ limit_decides o files named limit (Answered status) told refuses other = absurd 
 limit_decides o files named limit Altered told refuses other = absurd other
 
 token_decides : (o : Outside) (files : Contents) (named : Named) (stop : Stop) → o.held ≡ Some files
-    → RefusesToken o.held named → RefusesFiles o.held o.read_before o.read_now named stop → EndsAt 4 o (status_of stop)
+    → RefusesToken o.held named → RefusesFiles o.held o.read_before o.read_now named stop → EndsAt 4 o (stop_status stop)
 token_decides o files named (Shared Usage) told refuses other = absurd other
 token_decides o files named (Shared (Rules which row column cause)) told refuses other = absurd other
 token_decides o files named (Shared (ChangeLine line why)) told refuses other = absurd (no_token o.held files named told refuses other.token)
@@ -230,7 +230,7 @@ token_decides o files named (Answered status) told refuses other = absurd other
 token_decides o files named Altered told refuses other = absurd other
 
 length_decides : (o : Outside) (files : Contents) (named : Named) (seen : ℕ) (stop : Stop) → o.held ≡ Some files
-    → ExceedsFile o.held named seen → RefusesFiles o.held o.read_before o.read_now named stop → EndsAt 5 o (status_of stop)
+    → ExceedsFile o.held named seen → RefusesFiles o.held o.read_before o.read_now named stop → EndsAt 5 o (stop_status stop)
 length_decides o files named seen (Shared Usage) told long other = absurd other
 length_decides o files named seen (Shared (Rules which row column cause)) told long other = absurd other
 length_decides o files named seen (Shared (ChangeLine line why)) told long other =
@@ -255,7 +255,7 @@ length_decides o files named seen Altered told long other = absurd other
 
 -- a refusal after which the files are not read, and which decides
 exactly : (wanted : ℕ) (o : Outside) (words : List (List ℕ)) (e : Told) (status : ℕ) (named : Named) → sync_of words ≡ Some named → NotPrepared o named
-    → ((stop : Stop) → RefusesFiles o.held o.read_before o.read_now named stop → EndsAt wanted o (status_of stop)) → EndsSo o words e status → EndsAt wanted o status
+    → ((stop : Stop) → RefusesFiles o.held o.read_before o.read_now named stop → EndsAt wanted o (stop_status stop)) → EndsSo o words e status → EndsAt wanted o status
 exactly wanted o words e status named is none decides (inl (zero, done, quiet)) =
     absurd (not_done o named done.text none (subst (λ n. IsDone o n done.text) (one_named words named done.named is done.is) done.done))
 exactly wanted o words e status named is none decides (inr (stop, stops, says)) =
@@ -282,9 +282,9 @@ five_for_a_length o words e status files named told is (inr (limit, refuses)) en
 
 -- ---- other words, and no cause
 
-usage_or_memory : (stop : Stop) (status : ℕ) → status ≡ status_of stop → (stop ≡ Shared Usage) ⊎ (stop ≡ Shared Memory) → (status ≡ 1) ⊎ (status ≡ 8)
-usage_or_memory stop status is (inl usage) = inl (is ∙ ap status_of usage)
-usage_or_memory stop status is (inr memory) = inr (is ∙ ap status_of memory)
+usage_or_memory : (stop : Stop) (status : ℕ) → status ≡ stop_status stop → (stop ≡ Shared Usage) ⊎ (stop ≡ Shared Memory) → (status ≡ 1) ⊎ (status ≡ 8)
+usage_or_memory stop status is (inl usage) = inl (is ∙ ap stop_status usage)
+usage_or_memory stop status is (inr memory) = inr (is ∙ ap stop_status memory)
 
 other_words : (o : Outside) (words : List (List ℕ)) (stop : Stop) → sync_of words ≡ None → StopsBy o words stop → (stop ≡ Shared Usage) ⊎ (stop ≡ Shared Memory)
 other_words o words stop none (inl refused) = inl refused.1.1
@@ -324,4 +324,4 @@ by_memory o words named stop is none (inr (inr wanting)) = wanting.1
 pub zero_for_no_cause : ZeroForNoCause
 zero_for_no_cause o words e status named is none (inl done) = inl done
 zero_for_no_cause o words e status named is none (inr (stop, stops, says)) =
-    inr (says.is ∙ ap status_of (by_memory o words named stop is none stops))
+    inr (says.is ∙ ap stop_status (by_memory o words named stop is none stops))

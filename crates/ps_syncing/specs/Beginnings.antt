@@ -9,10 +9,10 @@ use Rattle.ps_answers.specs.declared.heads.AnswerHead.{AnswerHead}
 use Rattle.ps_syncing.specs.declared.faults.SyncFault.{SyncFault}
 use Rattle.ps_syncing.specs.declared.faults.SyncFault.TheVariants.{ConnectionFailed, NoCheckpoint, Answered, Altered, LineTooLong, Memory}
 use Rattle.ps_syncing.specs.declared.exchanges.Begun.{Begun}
-use Rattle.ps_syncing.specs.Exchanges.{given_of, Sees, HasNoHead, IsRefused}
+use Rattle.ps_syncing.specs.Exchanges.{given_of, Sees, HasNoHead, ExchangeIsRefused}
 
 -- since it was so, the source handed out a head of status 200, and what is left, which is no more than a line may have
-pub record HasBegun (old new : Option Input) (begun : Begun) : Type 0 where
+pub record AnswerHasBegun (old new : Option Input) (begun : Begun) : Type 0 where
   pub head : AnswerHead
   pub front : List ℕ
   pub given : HasGiven new (given_of old ++ front ++ left_of begun.reader)
@@ -22,11 +22,11 @@ pub record HasBegun (old new : Option Input) (begun : Begun) : Type 0 where
   pub few : length (left_of begun.reader) ≤ line_limit
 
 -- what a request's answer begins with
-abbrev pub Begins : Option Input → Option Input → List ℕ → Result Begun SyncFault → Type 0
-Begins old new request (Ok begun) = HasBegun old new begun
-Begins old new request (Err ConnectionFailed) = Unit {0}
-Begins old new request (Err NoCheckpoint) = Sees old new request HasNoHead
-Begins old new request (Err (Answered status)) = Sees old new request (λ one. IsRefused one status)
-Begins old new request (Err Altered) = ⊥
-Begins old new request (Err (LineTooLong seen)) = ⊥
-Begins old new request (Err Memory) = Unit {0}
+abbrev pub BeginsExchange : Option Input → Option Input → List ℕ → Result Begun SyncFault → Type 0
+BeginsExchange old new request (Ok begun) = AnswerHasBegun old new begun
+BeginsExchange old new request (Err ConnectionFailed) = Unit {0}
+BeginsExchange old new request (Err NoCheckpoint) = Sees old new request HasNoHead
+BeginsExchange old new request (Err (Answered status)) = Sees old new request (λ one. ExchangeIsRefused one status)
+BeginsExchange old new request (Err Altered) = ⊥
+BeginsExchange old new request (Err (LineTooLong seen)) = ⊥
+BeginsExchange old new request (Err Memory) = Unit {0}

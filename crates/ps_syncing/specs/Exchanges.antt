@@ -54,7 +54,7 @@ Sees old new request Holds =
 -- ---- answers
 
 -- the bytes that came begin with a head of this status; behind it stand these
-pub record HasHead (given : List ℕ) (status : ℕ) (length_is : Option ℕ) (behind : List ℕ) : Type 0 where
+pub record HasAnswerHead (given : List ℕ) (status : ℕ) (length_is : Option ℕ) (behind : List ℕ) : Type 0 where
   pub head : AnswerHead
   pub front : List ℕ
   pub bytes : given ≡ front ++ behind
@@ -63,15 +63,15 @@ pub record HasHead (given : List ℕ) (status : ℕ) (length_is : Option ℕ) (b
   pub states : head.length ≡ length_is
 
 -- the answer's status is 200, and this is its body, as long as the head states
-pub record IsAnswered (one : Exchange) (body : List ℕ) : Type 0 where
+pub record IsAnsweredInFull (one : Exchange) (body : List ℕ) : Type 0 where
   pub rest : List ℕ
-  pub headed : HasHead one.given 200 (Some (length body)) (body ++ rest)
+  pub headed : HasAnswerHead one.given 200 (Some (length body)) (body ++ rest)
 
 -- the answer's status is this one, another than 200, and no more came behind its head than a line may have
-pub record IsRefused (one : Exchange) (status : ℕ) : Type 0 where
+pub record ExchangeIsRefused (one : Exchange) (status : ℕ) : Type 0 where
   pub states : Option ℕ
   pub behind : List ℕ
-  pub headed : HasHead one.given status states behind
+  pub headed : HasAnswerHead one.given status states behind
   pub other : status ≢ 200
   pub few : length behind ≤ line_limit
 
@@ -90,15 +90,15 @@ LacksBody (Some count) behind ended = (length behind < count) × (ended ≡ true
 pub record HasNoBody (one : Exchange) : Type 0 where
   pub states : Option ℕ
   pub behind : List ℕ
-  pub headed : HasHead one.given 200 states behind
+  pub headed : HasAnswerHead one.given 200 states behind
   pub lacks : LacksBody states behind one.ended
 
 -- what an exchange answered, where that much is known of it
-abbrev pub Answers : ((Exchange → Type 0) → Type 0) → Result Reader SyncFault → Type 0
-Answers Known (Ok reader) = Known (λ one. IsAnswered one (part_of reader))
-Answers Known (Err ConnectionFailed) = Unit {0}
-Answers Known (Err NoCheckpoint) = Known (λ one. HasNoHead one ⊎ HasNoBody one)
-Answers Known (Err (Answered status)) = Known (λ one. IsRefused one status)
-Answers Known (Err Altered) = ⊥
-Answers Known (Err (LineTooLong seen)) = ⊥
-Answers Known (Err Memory) = Unit {0}
+abbrev pub AnswersExchange : ((Exchange → Type 0) → Type 0) → Result Reader SyncFault → Type 0
+AnswersExchange Known (Ok reader) = Known (λ one. IsAnsweredInFull one (part_of reader))
+AnswersExchange Known (Err ConnectionFailed) = Unit {0}
+AnswersExchange Known (Err NoCheckpoint) = Known (λ one. HasNoHead one ⊎ HasNoBody one)
+AnswersExchange Known (Err (Answered status)) = Known (λ one. ExchangeIsRefused one status)
+AnswersExchange Known (Err Altered) = ⊥
+AnswersExchange Known (Err (LineTooLong seen)) = ⊥
+AnswersExchange Known (Err Memory) = Unit {0}

@@ -17,20 +17,20 @@ abbrev pub ◌>>=◌ : {A B : Type 0} → Result A Refused → (A → Result B R
 -- ---- lines of changes
 
 -- the change of the line of that number, or why it is refused
-abbrev pub numbered : ℕ → Result Change ChangeFault → Result Change Refused
-numbered number (Ok change) = Ok change
-numbered number (Err fault) = Err (record { line = number; fault = fault })
+abbrev pub change_at_line : ℕ → Result Change ChangeFault → Result Change Refused
+change_at_line number (Ok change) = Ok change
+change_at_line number (Err fault) = Err (record { line = number; fault = fault })
 
 -- the changes of lines, counted from a number on, behind others: blank lines are skipped and counted, and the first line that is refused decides
 abbrev pub changes_from : List Change → ℕ → List (List ℕ) → Result (List Change) Refused
 changes_from done number [] = Ok done
 changes_from done number (line ∷ lines) = if is_blank line then changes_from done (number + 1) lines else (do
-  change ← numbered number (lone_change_of line)
+  change ← change_at_line number (lone_change_of line)
   changes_from (done ++ change ∷ []) (number + 1) lines)
 
 -- the changes of a file that is to be uploaded, or the first line that is refused
-unfoldable pub changes_of : List ℕ → Result (List Change) Refused
-changes_of bytes = changes_from [] 1 (lines_of bytes)
+unfoldable pub file_changes : List ℕ → Result (List Change) Refused
+file_changes bytes = changes_from [] 1 (lines_of bytes)
 
 -- what was read is what is meant; of a refusal for being out of memory nothing is said
 abbrev pub UnlessMemory : ChangeFault → Type 0 → Type 0
@@ -63,5 +63,5 @@ bytes_left (Some bytes) = length bytes.now + 1
 -- so far, the lines up to a number gave these changes
 pub record HasRead (bytes : List ℕ) (number : ℕ) (rest : Option (Bor (List ℕ))) (done : List Change) : Type 0 where
   pub tables : All (λ (change : Change). change.table ≢ []) done
-  pub meaning : changes_of bytes ≡ changes_from done (number + 1) (lines_left rest)
+  pub meaning : file_changes bytes ≡ changes_from done (number + 1) (lines_left rest)
   pub counted : number + bytes_left rest ≤ length bytes + 1

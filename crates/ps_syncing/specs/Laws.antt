@@ -4,7 +4,7 @@ use Rattle.std.specs.List.{Contains}
 use Rattle.ps_io.specs.Contents.{Contents}
 use Rattle.ps_io.specs.Counts.{Rose}
 use Rattle.ps_doors.specs.Connections.{Connection}
-use Rattle.ps_files.specs.FaultTexts.{Tells, fault_line}
+use Rattle.ps_files.specs.FaultTexts.{TellsText, fault_line}
 use Rattle.ps_files.specs.Saying.{Told}
 use Rattle.ps_files.specs.declared.faults.Fault.{Fault}
 use Rattle.ps_files.specs.declared.faults.Fault.TheVariants.{Change as ChangeLine, PastLimit, TooLong, Memory}
@@ -17,7 +17,7 @@ use Rattle.ps_syncing.specs.declared.words.Named.{Named}
 use Rattle.ps_syncing.specs.Exchanges.{Closes, Exchange}
 use Rattle.ps_syncing.specs.Runs.{IsLongStream}
 use Rattle.ps_syncing.specs.Saying.{answered_line}
-use Rattle.ps_syncing.specs.Syncing.{Causes, EndsSo, ExceedsFile, ExceedsLimit, FailsToPrint, HasDone, IsFailed, IsNext, Outside, RefusesToken, RefusesUpload}
+use Rattle.ps_syncing.specs.Syncing.{Causes, EndsSo, ExceedsFile, ExceedsLimit, FailsToPrint, HasDone, IsFailed, IsNextInput, Outside, RefusesToken, RefusesUpload}
 use Rattle.ps_syncing.specs.Words.{sync_of}
 
 -- wherever it ends with that status, this holds
@@ -29,8 +29,8 @@ abbrev pub NamesSo : List (List ℕ) → (Named → Type 0) → Type 0
 NamesSo words Holds = (named : Named) × (sync_of words ≡ Some named) × Holds named
 
 -- that fault is what standard error gets
-abbrev pub Says : Told → Fault → Type 0
-Says e fault = Tells e.old e.new e.before e.now (fault_line fault)
+abbrev pub SaysFault : Told → Fault → Type 0
+SaysFault e fault = TellsText e.old e.new e.before e.now (fault_line fault)
 
 -- 0: all was done and printed, and nothing was said
 abbrev pub DoneAtZero : Type 0
@@ -43,7 +43,7 @@ NoWordsAtOne = WhereEnds 1 (λ o words e. sync_of words ≡ None)
 -- 3: a line of the file to upload, the first that is refused, is no change; its number and why are printed
 abbrev pub LineAtThree : Type 0
 LineAtThree = WhereEnds 3 (λ o words e. NamesSo words (λ named.
-    (line : ℕ) × (why : LineFault) × RefusesUpload o.held named (ChangeLine line why) × Says e (ChangeLine line why)))
+    (line : ℕ) × (why : LineFault) × RefusesUpload o.held named (ChangeLine line why) × SaysFault e (ChangeLine line why)))
 
 -- 4: the token file holds no token
 abbrev pub TokenAtFour : Type 0
@@ -52,11 +52,11 @@ TokenAtFour = WhereEnds 4 (λ o words e. NamesSo words (λ named. RefusesToken o
 -- 5: a file, a line of the file to upload or a line of a stream is longer than it may be; how long is printed
 abbrev pub LimitAtFive : Type 0
 LimitAtFive = WhereEnds 5 (λ o words e. NamesSo words (λ named.
-    ((seen : ℕ) × ExceedsFile o.held named seen × Says e (TooLong seen)) ⊎ ((limit : Limit) × ExceedsLimit o named limit × Says e (PastLimit limit))))
+    ((seen : ℕ) × ExceedsFile o.held named seen × SaysFault e (TooLong seen)) ⊎ ((limit : Limit) × ExceedsLimit o named limit × SaysFault e (PastLimit limit))))
 
 -- 6: the faults of the files rose
 abbrev pub UnreadAtSix : Type 0
-UnreadAtSix = WhereEnds 6 (λ o words e. NamesSo words (λ named. (name : List ℕ) × IsNext o.held named name × Rose o.read_before o.read_now))
+UnreadAtSix = WhereEnds 6 (λ o words e. NamesSo words (λ named. (name : List ℕ) × IsNextInput o.held named name × Rose o.read_before o.read_now))
 
 -- 7: the faults of the output rose
 abbrev pub UnwrittenAtSeven : Type 0
@@ -73,7 +73,7 @@ UnansweredAtEleven = WhereEnds 11 (λ o words e. NamesSo words (λ named. IsFail
 -- 12: the service answered with another status than 200, which is printed
 abbrev pub StatusAtTwelve : Type 0
 StatusAtTwelve = WhereEnds 12 (λ o words e. NamesSo words (λ named.
-    (status : ℕ) × IsFailed o named (Answered status) × Tells e.old e.new e.before e.now (answered_line status)))
+    (status : ℕ) × IsFailed o named (Answered status) × TellsText e.old e.new e.before e.now (answered_line status)))
 
 -- 13: eight streams were refused, or a line was none or did not come next
 abbrev pub AlteredAtThirteen : Type 0

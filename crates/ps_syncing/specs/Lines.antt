@@ -4,11 +4,11 @@ use Rattle.ps_data.specs.declared.ids.OpId.{OpId}
 use Rattle.ps_io.specs.Sources.{Input}
 use Rattle.ps_answers.specs.Givings.{HasGiven, HasEnded}
 use Rattle.ps_answers.specs.Heads.{IsAnswerHead}
-use Rattle.ps_answers.specs.Lines.{FitsLine, line_limit, lines_text, with_feed}
+use Rattle.ps_answers.specs.Lines.{FitsLine, line_limit, lines_with_feeds, with_feed}
 use Rattle.ps_answers.specs.Readers.{GivesTooLong}
 use Rattle.ps_answers.specs.declared.heads.AnswerHead.{AnswerHead}
 use Rattle.ps_client.specs.Clients.{PlainClient, line_taken}
-use Rattle.ps_client.specs.Taking.{IsTaken}
+use Rattle.ps_client.specs.Taking.{LineIsTaken}
 use Rattle.ps_client.specs.declared.events.Differing.{Differing}
 use Rattle.ps_client.specs.declared.events.Event.{Event}
 use Rattle.ps_client.specs.declared.events.Event.TheVariants.{Applied, Refused}
@@ -19,17 +19,17 @@ use Rattle.ps_syncing.specs.declared.streams.Ended.{Ended}
 use Rattle.ps_syncing.specs.declared.streams.Ended.TheVariants as ended
 use Rattle.ps_progress.specs.Meters.{Heeds, Seen}
 use Rattle.ps_syncing.specs.Exchanges.{given_of}
-use Rattle.ps_syncing.specs.Streams.{GoesOn, Passes}
+use Rattle.ps_syncing.specs.Streams.{StreamGoesOn, Passes}
 
 -- the client took a line and said this of it
-abbrev pub Tells : PlainClient → PlainClient → List ℕ → Event → Type 0
-Tells old new line event = IsTaken (line_taken old line) old.kept event new
+abbrev pub ClientTells : PlainClient → PlainClient → List ℕ → Event → Type 0
+ClientTells old new line event = LineIsTaken (line_taken old line) old.kept event new
 
 -- a line was taken: the stream goes on, or it ended so; or the plain client refuses the line
 abbrev pub TakesPart : PlainClient → PlainClient → List ℕ → Result (Option Ended) SyncFault → Type 0
-TakesPart old new line (Ok None) = (event : Event) × Tells old new line event × GoesOn event
-TakesPart old new line (Ok (Some ended.Applied)) = (op : OpId) × Tells old new line (Applied op)
-TakesPart old new line (Ok (Some ended.Refused)) = (buckets : List Differing) × Tells old new line (Refused buckets)
+TakesPart old new line (Ok None) = (event : Event) × ClientTells old new line event × StreamGoesOn event
+TakesPart old new line (Ok (Some ended.Applied)) = (op : OpId) × ClientTells old new line (Applied op)
+TakesPart old new line (Ok (Some ended.Refused)) = (buckets : List Differing) × ClientTells old new line (Refused buckets)
 TakesPart old new line (Err ConnectionFailed) = Unit {0}
 TakesPart old new line (Err NoCheckpoint) = ⊥
 TakesPart old new line (Err (Answered status)) = ⊥
@@ -57,11 +57,11 @@ pub record ComesNone (input : Option Input) (before left : List ℕ) : Type 0 wh
 -- the next line came and was taken, or none came, or it is too long
 abbrev pub TakesNext : Option Input → List ℕ → List ℕ → PlainClient → PlainClient → Result (Option Ended) SyncFault → Type 0
 TakesNext input before left old new (Ok None) =
-    (line : List ℕ) × Comes input before left line × (event : Event) × Tells old new line event × GoesOn event
+    (line : List ℕ) × Comes input before left line × (event : Event) × ClientTells old new line event × StreamGoesOn event
 TakesNext input before left old new (Ok (Some ended.Applied)) =
-    (line : List ℕ) × Comes input before left line × (op : OpId) × Tells old new line (Applied op)
+    (line : List ℕ) × Comes input before left line × (op : OpId) × ClientTells old new line (Applied op)
 TakesNext input before left old new (Ok (Some ended.Refused)) =
-    (line : List ℕ) × Comes input before left line × (buckets : List Differing) × Tells old new line (Refused buckets)
+    (line : List ℕ) × Comes input before left line × (buckets : List Differing) × ClientTells old new line (Refused buckets)
 TakesNext input before left old new (Err ConnectionFailed) = Unit {0}
 TakesNext input before left old new (Err NoCheckpoint) = ComesNone input before left
 TakesNext input before left old new (Err (Answered status)) = ⊥
@@ -85,7 +85,7 @@ pub record Flowing (old now : Option Input) (was is : PlainClient) (left : List 
   pub head : AnswerHead
   pub front : List ℕ
   pub lines : List (List ℕ)
-  pub given : HasGiven now (given_of old ++ front ++ lines_text lines ++ left)
+  pub given : HasGiven now (given_of old ++ front ++ lines_with_feeds lines ++ left)
   pub is_head : IsAnswerHead front head
   pub status_is : head.status ≡ 200
   pub passed : Passes was lines is

@@ -10,7 +10,7 @@ use Rattle.ps_files.specs.declared.faults.Fault.TheVariants.{Usage, Rules, Chang
 use Rattle.ps_syncing.specs.declared.inputs.Refused.{Refused}
 use Rattle.ps_syncing.specs.declared.stops.Stop.{Stop}
 use Rattle.ps_syncing.specs.declared.stops.Stop.TheVariants.{Shared, Token, ConnectionFailed, NoCheckpoint, Answered, Altered}
-use Rattle.ps_syncing.specs.Inputs.{changes_of}
+use Rattle.ps_syncing.specs.Inputs.{file_changes}
 
 -- what one file gives: what was found in its bytes, or why these are refused; that it is longer than a file may be; or that the files failed
 abbrev pub LoadsSo : {X : Type 0} → Option Contents → List ℕ → ℕ → ℕ → (X → List ℕ → Type 0) → (Stop → List ℕ → Type 0) → Result X Stop → Type 0
@@ -49,10 +49,10 @@ ReadsTokenSo bytes (Err stop) = HasNoToken stop bytes ⊎ (stop ≡ Shared Memor
 
 -- the changes that bytes are, or the first line that is refused
 abbrev pub FindsChanges : List Change → List ℕ → Type 0
-FindsChanges changes bytes = changes_of bytes ≡ Ok changes
+FindsChanges changes bytes = file_changes bytes ≡ Ok changes
 
 abbrev pub HasBadLine : Stop → List ℕ → Type 0
-HasBadLine stop bytes = (refused : Refused) × (stop ≡ Shared (line_fault refused.line refused.fault)) × (changes_of bytes ≡ Err refused)
+HasBadLine stop bytes = (refused : Refused) × (stop ≡ Shared (line_fault refused.line refused.fault)) × (file_changes bytes ≡ Err refused)
 
 -- the changes of bytes were read, or a line is refused, or it was out of memory
 abbrev pub ReadsUploadSo : List ℕ → Result (List Change) Stop → Type 0

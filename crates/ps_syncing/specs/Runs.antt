@@ -9,14 +9,14 @@ use Rattle.ps_answers.specs.Lines.{HoldsLongLine}
 use Rattle.ps_answers.specs.Numbers.{checkpoint_in, position_in}
 use Rattle.ps_answers.specs.Requests.{stream_text}
 use Rattle.ps_client_log.specs.Kept.{Kept}
-use Rattle.ps_client_log.specs.Rows.{AreInOrder, row_at}
+use Rattle.ps_client_log.specs.Rows.{AreInOrder, shown_at}
 use Rattle.ps_client.specs.Clients.{PlainClient, asked, is_pending}
 use Rattle.ps_client.specs.LocalWrites.{written, aimed, keeping}
 use Rattle.ps_syncing.specs.declared.faults.SyncFault.{SyncFault}
 use Rattle.ps_syncing.specs.declared.faults.SyncFault.TheVariants.{ConnectionFailed, NoCheckpoint, Answered, Altered, LineTooLong, Memory}
 use Rattle.ps_syncing.specs.declared.services.Service.{Service}
-use Rattle.ps_syncing.specs.Exchanges.{Exchange, Closes, IsRefused, HasNoHead}
-use Rattle.ps_syncing.specs.Numbers.{IsUnformed, IsUpload, IsNumber, upload_of, number_of}
+use Rattle.ps_syncing.specs.Exchanges.{Exchange, Closes, ExchangeIsRefused, HasNoHead}
+use Rattle.ps_syncing.specs.Numbers.{IsUnformed, IsUpload, IsNumber, upload_request, request_for_number}
 use Rattle.ps_syncing.specs.Streams.{IsStreamRequest, EndsApplied, EndsRefused, EndsOpen, IsAltered, ExceedsLine}
 
 -- how many streams there are at most
@@ -90,7 +90,7 @@ pub record Syncs (service : Service) (changes : List Change) (old new : PlainCli
 -- these are the rows that the client shows, in the order of kind and id
 pub record AreShown (client : PlainClient) (rows : List Shown) : Type 0 where
   pub in_order : AreInOrder rows
-  pub same : (object : Object) → row_at object rows ≡ client.kept.shown object.0 object.1
+  pub same : (object : Object) → shown_at object rows ≡ client.kept.shown object.0 object.1
 
 -- ---- lines that are too long
 
@@ -122,11 +122,11 @@ pub record ClosesLast (old new : Option (List Connection)) (Holds : Exchange →
 -- an upload, or the request for a write checkpoint, was answered in another form
 pub record IsLostUpload (service : Service) (one : Exchange) : Type 0 where
   pub change : Change
-  pub asks : one.taken ≡ upload_of service change
+  pub asks : one.taken ≡ upload_request service change
   pub unformed : IsUnformed position_in one
 
 pub record IsLostNumber (service : Service) (one : Exchange) : Type 0 where
-  pub asks : one.taken ≡ number_of service
+  pub asks : one.taken ≡ request_for_number service
   pub unformed : IsUnformed checkpoint_in one
 
 -- a stream of this request ended so
@@ -157,7 +157,7 @@ pub record ClosesRefused (service : Service) (old new : Option (List Connection)
 abbrev pub FailsSo : Service → Option (List Connection) → Option (List Connection) → SyncFault → Type 0
 FailsSo service old new ConnectionFailed = Unit {0}
 FailsSo service old new NoCheckpoint = ClosesLast old new (IsLost service)
-FailsSo service old new (Answered status) = ClosesLast old new (λ one. IsRefused one status)
+FailsSo service old new (Answered status) = ClosesLast old new (λ one. ExchangeIsRefused one status)
 FailsSo service old new Altered =
     ClosesLast old new (IsStreamWith service (λ client one. IsAltered one client)) ⊎ ClosesRefused service old new
 FailsSo service old new (LineTooLong seen) = ClosesLast old new (IsStreamWith service (λ client one. ExceedsLine one client seen))

@@ -2,18 +2,18 @@
 use Rattle.std.specs.Prelude.{◌≡◌, ℕ, Bool, true, false, List, ◌++◌, Option, codes, decimal}
 use Rattle.ps_io.specs.Contents.{Gains, GainsFront}
 use Rattle.ps_io.specs.Counts.{Rose}
-use Rattle.ps_files.specs.FaultTexts.{Tells, fault_line, status_of as shared_status}
+use Rattle.ps_files.specs.FaultTexts.{TellsText, fault_line, status_of as shared_status}
 use Rattle.ps_files.specs.Saying.{Told}
 use Rattle.ps_syncing.specs.declared.stops.Stop.{Stop}
 use Rattle.ps_syncing.specs.declared.stops.Stop.TheVariants.{Shared, Token, ConnectionFailed, NoCheckpoint, Answered, Altered}
 
-abbrev pub status_of : Stop → ℕ
-status_of (Shared fault) = shared_status fault
-status_of Token = 4
-status_of ConnectionFailed = 10
-status_of NoCheckpoint = 11
-status_of (Answered status) = 12
-status_of Altered = 13
+abbrev pub stop_status : Stop → ℕ
+stop_status (Shared fault) = shared_status fault
+stop_status Token = 4
+stop_status ConnectionFailed = 10
+stop_status NoCheckpoint = 11
+stop_status (Answered status) = 12
+stop_status Altered = 13
 
 -- a number, behind its words
 abbrev pub numbered_line : List ℕ → ℕ → List ℕ
@@ -37,8 +37,8 @@ stop_line Altered = codes "powersync: stream altered\n"
 
 -- the status of the fault, and its line on standard error
 pub record SaysStop (e : Told) (stop : Stop) (status : ℕ) : Type 0 where
-  pub is : status ≡ status_of stop
-  pub line : Tells e.old e.new e.before e.now (stop_line stop)
+  pub is : status ≡ stop_status stop
+  pub line : TellsText e.old e.new e.before e.now (stop_line stop)
 
 -- a sink took a piece and did not fail; or it failed, and took a front of it
 abbrev pub TellsPiece : Option (List ℕ) → Option (List ℕ) → ℕ → ℕ → List ℕ → Bool → Type 0

@@ -2,7 +2,7 @@
 use Rattle.std.specs.Prelude.{◌≡◌, ◌⊎◌, ℕ, ◌≤◌, length, true, List, [], ◌∷◌, ◌++◌, Option, Result, Ok, Err}
 use Rattle.ps_data.specs.declared.ids.OpId.{OpId}
 use Rattle.ps_answers.specs.Heads.{IsAnswerHead}
-use Rattle.ps_answers.specs.Lines.{FitsLine, line_limit, lines_text, with_feed}
+use Rattle.ps_answers.specs.Lines.{FitsLine, line_limit, lines_with_feeds, with_feed}
 use Rattle.ps_answers.specs.Readers.{BeginsTooLong}
 use Rattle.ps_answers.specs.Requests.{stream_text}
 use Rattle.ps_answers.specs.declared.heads.AnswerHead.{AnswerHead}
@@ -11,7 +11,7 @@ use Rattle.ps_lines.specs.BodyTexts.{body_text}
 use Rattle.ps_lines.specs.declared.bodies.StreamBody.{StreamBody}
 use Rattle.ps_client.specs.Clients.{PlainClient, line_taken}
 use Rattle.ps_client.specs.Requests.{IsRequest}
-use Rattle.ps_client.specs.Taking.{IsTaken}
+use Rattle.ps_client.specs.Taking.{LineIsTaken}
 use Rattle.ps_client.specs.declared.events.Differing.{Differing}
 use Rattle.ps_client.specs.declared.events.Event.{Event}
 use Rattle.ps_client.specs.declared.events.Event.TheVariants.{Nothing, Applied, Held, Refused, Expiring}
@@ -21,30 +21,30 @@ use Rattle.ps_syncing.specs.declared.faults.SyncFault.TheVariants.{ConnectionFai
 use Rattle.ps_syncing.specs.declared.services.Service.{Service}
 use Rattle.ps_syncing.specs.declared.streams.Ended.{Ended}
 use Rattle.ps_syncing.specs.declared.streams.Ended.TheVariants as ended
-use Rattle.ps_syncing.specs.Exchanges.{Exchange, ClosesOne, HasNoHead, IsRefused}
+use Rattle.ps_syncing.specs.Exchanges.{Exchange, ClosesOne, HasNoHead, ExchangeIsRefused}
 
 -- ---- lines
 
 -- a stream goes on after this event
-abbrev pub GoesOn : Event → Type 0
-GoesOn Nothing = Unit {0}
-GoesOn (Applied op) = ⊥
-GoesOn (Held why) = Unit {0}
-GoesOn (Refused buckets) = ⊥
-GoesOn (Expiring seconds) = Unit {0}
+abbrev pub StreamGoesOn : Event → Type 0
+StreamGoesOn Nothing = Unit {0}
+StreamGoesOn (Applied op) = ⊥
+StreamGoesOn (Held why) = Unit {0}
+StreamGoesOn (Refused buckets) = ⊥
+StreamGoesOn (Expiring seconds) = Unit {0}
 
 -- the client took these lines, each within its limit, one after another, and after each the stream went on
 pub data Passes (old : PlainClient) : List (List ℕ) → PlainClient → Type 0 where
   no_lines : Passes old [] old
   next_line : (lines : List (List ℕ)) (line : List ℕ) (before after : PlainClient) (event : Event) → Passes old lines before → FitsLine line
-      → IsTaken (line_taken before line) before.kept event after → GoesOn event → Passes old (lines ++ line ∷ []) after
+      → LineIsTaken (line_taken before line) before.kept event after → StreamGoesOn event → Passes old (lines ++ line ∷ []) after
 
 -- the answer's status is 200, the client took the lines behind its head, and these bytes stand behind them
 pub record Flows (one : Exchange) (old now : PlainClient) (behind : List ℕ) : Type 0 where
   pub head : AnswerHead
   pub front : List ℕ
   pub lines : List (List ℕ)
-  pub bytes : one.given ≡ front ++ (lines_text lines ++ behind)
+  pub bytes : one.given ≡ front ++ (lines_with_feeds lines ++ behind)
   pub is_head : IsAnswerHead front head
   pub status_is : head.status ≡ 200
   pub passed : Passes old lines now
@@ -57,7 +57,7 @@ pub record EndsBy (one : Exchange) (old : PlainClient) (event : Event) (new : Pl
   pub flows : Flows one old before (with_feed line ++ rest)
   pub whole : FitsLine line
   pub few : length rest ≤ line_limit
-  pub taken : IsTaken (line_taken before line) before.kept event new
+  pub taken : LineIsTaken (line_taken before line) before.kept event new
 
 -- a checkpoint was applied; one was refused
 abbrev pub EndsApplied : Exchange → PlainClient → PlainClient → Type 0
@@ -98,7 +98,7 @@ Streams Known old new (Ok ended.Applied) = Known (λ one. EndsApplied one old ne
 Streams Known old new (Ok ended.Refused) = Known (λ one. EndsRefused one old new)
 Streams Known old new (Err ConnectionFailed) = Unit {0}
 Streams Known old new (Err NoCheckpoint) = Known (λ one. HasNoHead one ⊎ EndsOpen one old)
-Streams Known old new (Err (Answered status)) = Known (λ one. IsRefused one status)
+Streams Known old new (Err (Answered status)) = Known (λ one. ExchangeIsRefused one status)
 Streams Known old new (Err Altered) = Known (λ one. IsAltered one old)
 Streams Known old new (Err (LineTooLong seen)) = Known (λ one. ExceedsLine one old seen)
 Streams Known old new (Err Memory) = Unit {0}

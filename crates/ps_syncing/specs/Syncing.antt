@@ -7,7 +7,7 @@ use Rattle.ps_rows.specs.declared.changes.Change.{Change}
 use Rattle.ps_doors.specs.Connections.{Connection}
 use Rattle.ps_answers.specs.Tokens.{token_in}
 use Rattle.ps_client_log.specs.Kept.{Kept}
-use Rattle.ps_client_log.specs.Keeping.{Tells as TellsKept}
+use Rattle.ps_client_log.specs.Keeping.{TellsKept as TellsKept}
 use Rattle.ps_client.specs.Clients.{PlainClient}
 use Rattle.ps_files.specs.ChangeFiles.{line_fault}
 use Rattle.ps_files.specs.HeldFiles.{HoldsWithin, file_limit}
@@ -23,7 +23,7 @@ use Rattle.ps_syncing.specs.declared.services.Service.{Service}
 use Rattle.ps_syncing.specs.declared.stops.Stop.{Stop}
 use Rattle.ps_syncing.specs.declared.stops.Stop.TheVariants.{Shared, Token, ConnectionFailed, NoCheckpoint, Answered, Altered}
 use Rattle.ps_syncing.specs.declared.words.Named.{Named}
-use Rattle.ps_syncing.specs.Inputs.{changes_of}
+use Rattle.ps_syncing.specs.Inputs.{file_changes}
 use Rattle.ps_syncing.specs.Runs.{FailsSo}
 use Rattle.ps_syncing.specs.Saying.{SaysStop}
 use Rattle.ps_syncing.specs.Steps.{IsSynced, Prints}
@@ -42,7 +42,7 @@ pub record ReadsToken (held : Option Contents) (name token : List ℕ) : Type 0 
 pub record ReadsChanges (held : Option Contents) (name : List ℕ) (changes : List Change) : Type 0 where
   pub bytes : List ℕ
   pub file : HoldsWithin held name file_limit bytes
-  pub read : changes_of bytes ≡ Ok changes
+  pub read : file_changes bytes ≡ Ok changes
 
 -- where no file is named, there are none
 abbrev pub ReadsUpload : Option Contents → Option (List ℕ) → List Change → Type 0
@@ -76,17 +76,17 @@ pub record RefusesUpload (held : Option Contents) (named : Named) (fault : Fault
   pub bytes : List ℕ
   pub file : HoldsWithin held name file_limit bytes
   pub refused : Refused
-  pub read : changes_of bytes ≡ Err refused
+  pub read : file_changes bytes ≡ Err refused
   pub fault_is : fault ≡ line_fault refused.line refused.fault
 
 -- that is the token file; or the token is read, and that is the file to upload
-abbrev pub IsNext : Option Contents → Named → List ℕ → Type 0
-IsNext held named name = (name ≡ named.token_file) ⊎ ((named.upload ≡ Some name) × TokenRead held named)
+abbrev pub IsNextInput : Option Contents → Named → List ℕ → Type 0
+IsNextInput held named name = (name ≡ named.token_file) ⊎ ((named.upload ≡ Some name) × TokenRead held named)
 
 -- a file that comes next is longer than a file may be, and has so many bytes
 pub record ExceedsFile (held : Option Contents) (named : Named) (seen : ℕ) : Type 0 where
   pub name : List ℕ
-  pub next : IsNext held named name
+  pub next : IsNextInput held named name
   pub more : file_limit < seen
   pub file : HasLength held name seen
 
@@ -100,7 +100,7 @@ RefusesShared held before now named (TooManyBuckets count) = ⊥
 RefusesShared held before now named Claims = ⊥
 RefusesShared held before now named Keys = ⊥
 RefusesShared held before now named (TooLong seen) = ExceedsFile held named seen
-RefusesShared held before now named (CannotRead name) = IsNext held named name.now × Rose before now
+RefusesShared held before now named (CannotRead name) = IsNextInput held named name.now × Rose before now
 RefusesShared held before now named CannotWrite = ⊥
 RefusesShared held before now named (Script line why) = ⊥
 RefusesShared held before now named Memory = Unit {0}
@@ -176,7 +176,7 @@ CausesShared o named (TooManyBuckets count) = ⊥
 CausesShared o named Claims = ⊥
 CausesShared o named Keys = ⊥
 CausesShared o named (TooLong seen) = Unasked o × ExceedsFile o.held named seen
-CausesShared o named (CannotRead name) = Unasked o × IsNext o.held named name.now × Rose o.read_before o.read_now
+CausesShared o named (CannotRead name) = Unasked o × IsNextInput o.held named name.now × Rose o.read_before o.read_now
 CausesShared o named CannotWrite = FailsToPrint o named
 CausesShared o named (Script line why) = ⊥
 CausesShared o named Memory = Unprinted o

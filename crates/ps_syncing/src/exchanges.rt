@@ -4,8 +4,8 @@ ghost use Rattle.std.specs.Prelude.{◌≡◌, ◌≢◌, ◌<◌, ◌≤◌, �
 ghost use Rattle.ps_io.specs.Contents.{Gains};
 ghost use Rattle.ps_io.specs.Counts.{Rose};
 ghost use Rattle.ps_io.specs.Sources.{Input};
-ghost use Rattle.ps_syncing.specs.Exchanges.{Answers, ClosesOne, Sees};
-ghost use Rattle.ps_syncing.specs.Beginnings.{Begins, HasBegun};
+ghost use Rattle.ps_syncing.specs.Exchanges.{AnswersExchange, ClosesOne, Sees};
+ghost use Rattle.ps_syncing.specs.Beginnings.{BeginsExchange, AnswerHasBegun};
 
 use crate::SyncFault;
 use ps_answers::{AnswerFault, Part, ReadFault, Reader};
@@ -27,7 +27,7 @@ pub(crate) struct Begun {
 
 // Takes the head of an answer, whose status is 200.
 fn take_head<S: Source>(alloc: Global, from: &mut S) -> Result<Begun, SyncFault>
-    ensures begins { (request : List ℕ) → Begins (S.input from.old) (S.input from.new) request result }
+    ensures begins { (request : List ℕ) → BeginsExchange (S.input from.old) (S.input from.new) request result }
     ensures told { is_some (S.input from.new) ≡ is_some (S.input from.old) }
     ensures failed { result ≡ Err SyncFault.ConnectionFailed → 0 < S.faults from.new }
 {
@@ -55,7 +55,7 @@ pub(crate) fn begin<S: Source, K: Sink>(
     to: &mut K,
     request: &[u8],
 ) -> Result<Begun, SyncFault>
-    ensures begins { Begins (S.input from.old) (S.input from.new) request.now result }
+    ensures begins { BeginsExchange (S.input from.old) (S.input from.new) request.now result }
     ensures took { result ≢ Err SyncFault.ConnectionFailed → Gains (K.taken to.old) (K.taken to.new) request.now }
     ensures told { is_some (S.input from.new) ≡ is_some (S.input from.old) }
     ensures failed { result ≡ Err SyncFault.ConnectionFailed → 0 < S.faults from.new + K.faults to.new }
@@ -68,8 +68,8 @@ pub(crate) fn begin<S: Source, K: Sink>(
 
 // Takes the body of an answer.
 fn take_body<S: Source>(from: &mut S, begun: Begun) -> Result<Reader, SyncFault>
-    ensures answers { (old : Option Input) (request : List ℕ) → HasBegun old (S.input from.old) begun
-        → Answers (Sees old (S.input from.new) request) result }
+    ensures answers { (old : Option Input) (request : List ℕ) → AnswerHasBegun old (S.input from.old) begun
+        → AnswersExchange (Sees old (S.input from.new) request) result }
     ensures told { is_some (S.input from.new) ≡ is_some (S.input from.old) }
     ensures failed { result ≡ Err SyncFault.ConnectionFailed → 0 < S.faults from.new }
 {
@@ -92,7 +92,7 @@ fn take_answer<S: Source, K: Sink>(
     to: &mut K,
     request: &[u8],
 ) -> Result<Reader, SyncFault>
-    ensures answers { Answers (Sees (S.input from.old) (S.input from.new) request.now) result }
+    ensures answers { AnswersExchange (Sees (S.input from.old) (S.input from.new) request.now) result }
     ensures took { result ≢ Err SyncFault.ConnectionFailed → Gains (K.taken to.old) (K.taken to.new) request.now }
     ensures told { is_some (S.input from.new) ≡ is_some (S.input from.old) }
     ensures failed { result ≡ Err SyncFault.ConnectionFailed → 0 < S.faults from.new + K.faults to.new }
@@ -112,7 +112,7 @@ pub fn ask<L: Link>(
     address: &Text,
     request: &[u8],
 ) -> Result<Reader, SyncFault>
-    ensures answers { Answers (ClosesOne (L.closed link.old) (L.closed link.new) request.now) result }
+    ensures answers { AnswersExchange (ClosesOne (L.closed link.old) (L.closed link.new) request.now) result }
     ensures out { L.out link.new ≡ L.out link.old }
     ensures failed { result ≡ Err SyncFault.ConnectionFailed → Rose (L.faults link.old) (L.faults link.new) }
     ensures faults { L.faults link.old ≤ L.faults link.new }

@@ -4,7 +4,7 @@ ghost use Rattle.std.specs.Prelude.{◌≡◌, ◌≢◌, ◌<◌, ◌^◌, [], 
 ghost use Rattle.std.specs.List.{All};
 ghost use Rattle.ps_rows.specs.declared.changes.Change.{Change as ChangeSeen};
 ghost use Rattle.ps_changes.specs.Lines.{lone_change_of};
-ghost use Rattle.ps_syncing.specs.Inputs.{AddsChange, ReadsAs, changes_of, numbered};
+ghost use Rattle.ps_syncing.specs.Inputs.{AddsChange, ReadsAs, file_changes, change_at_line};
 
 use ps_changes::{ChangeFault, read_change};
 use ps_data::Items;
@@ -23,7 +23,7 @@ pub struct Refused {
 
 // The change of the line of that number.
 fn read_numbered(alloc: Global, line: &[u8], number: u64) -> Result<Change, Refused>
-    ensures read { ReadsAs result (numbered number (lone_change_of line.now)) }
+    ensures read { ReadsAs result (change_at_line number (lone_change_of line.now)) }
     ensures table { IfOk result (λ change. change.table ≢ []) }
 {
     match read_change(alloc, line) {
@@ -42,7 +42,7 @@ fn read_next(
     number: u64,
     changes: &mut Vec<Change>,
 ) -> Result<(), Refused>
-    ensures { AddsChange changes.old.items changes.new.items (numbered number (lone_change_of line.now)) result }
+    ensures { AddsChange changes.old.items changes.new.items (change_at_line number (lone_change_of line.now)) result }
 {
     match read_numbered(alloc, line, number) {
         Ok(change) => match changes.push(change) {
@@ -60,7 +60,7 @@ fn read_next(
 /// of memory with `ChangeFault::Memory`.
 pub fn read_uploads(alloc: Global, bytes: &[u8]) -> Result<Items<Change>, Refused>
     requires { length bytes.now < 2 ^ 63 }
-    ensures read { ReadsAs result (changes_of bytes.now) }
+    ensures read { ReadsAs result (file_changes bytes.now) }
     ensures tables { IfOk result (λ changes. All (λ (change : ChangeSeen). change.table ≢ []) changes) }
 {
     let mut changes = Vec::new(alloc);

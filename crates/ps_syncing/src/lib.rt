@@ -3,13 +3,13 @@
 
 mod client_faults;
 mod exchanges;
+mod fault_texts;
 mod faults;
 mod inputs;
-mod laws;
+pub mod laws;
 mod numbers;
 mod preparing;
 mod runs;
-mod saying;
 mod services;
 mod stops;
 mod streams;
@@ -17,12 +17,11 @@ mod syncing;
 mod words;
 
 pub use exchanges::ask;
+pub use fault_texts::{say_bad_store, say_stop};
 pub use faults::SyncFault;
 pub use inputs::{Refused, read_uploads};
-pub use laws::{statuses_come_exactly_there, statuses_have_their_causes};
 pub use numbers::{aim, upload_all};
 pub use runs::sync_client;
-pub use saying::{say_bad_store, say_stop};
 pub use services::Service;
 pub use stops::Stop;
 pub use streams::{Ended, stream};

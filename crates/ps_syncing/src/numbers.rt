@@ -5,9 +5,9 @@ ghost use Rattle.ps_data.specs.Numbers.{greatest};
 ghost use Rattle.ps_io.specs.Counts.{Rose};
 ghost use Rattle.ps_answers.specs.Numbers.{checkpoint_in, position_in};
 ghost use Rattle.ps_answers.specs.Requests as requests;
-ghost use Rattle.ps_client.specs.States.{keeper_of, name_of, state};
+ghost use Rattle.ps_client.specs.States.{keeper_of, client_name, state};
 ghost use Rattle.ps_syncing.specs.Exchanges.{ClosesOne};
-ghost use Rattle.ps_syncing.specs.Numbers.{Numbers, number_of};
+ghost use Rattle.ps_syncing.specs.Numbers.{Numbers, request_for_number};
 ghost use Rattle.ps_syncing.specs.Runs.{FailsSo};
 ghost use Rattle.ps_syncing.specs.Steps.{FindsNumber, UploadsOne, UploadsAll, AimsAt};
 
@@ -52,7 +52,7 @@ fn upload<L: Link>(
 
 // Asks for a write checkpoint, and gives the number that it is answered with.
 fn ask_number<L: Link>(alloc: Global, link: &mut L, service: &Service) -> Result<u64, SyncFault>
-    ensures numbers { Numbers (ClosesOne (L.closed link.old) (L.closed link.new) (number_of service.now)) checkpoint_in result }
+    ensures numbers { Numbers (ClosesOne (L.closed link.old) (L.closed link.new) (request_for_number service.now)) checkpoint_in result }
     ensures within { IfOk result (λ number. number ≤ greatest) }
     ensures out { L.out link.new ≡ L.out link.old }
     ensures failed { result ≡ Err SyncFault.ConnectionFailed → Rose (L.faults link.old) (L.faults link.new) }
@@ -74,7 +74,7 @@ fn upload_one<L: Link, P: Keeper>(
     ensures uploads { IfOk result (λ one. UploadsOne one service.now (state client.old) (state client.new) (L.closed link.old) (L.closed link.new)) }
     ensures fails { IfErr result (FailsSo service.now (L.closed link.old) (L.closed link.new)) }
     ensures out { L.out link.new ≡ L.out link.old }
-    ensures name { name_of client.new ≡ name_of client.old }
+    ensures name { client_name client.new ≡ client_name client.old }
     ensures failed { result ≡ Err SyncFault.ConnectionFailed
         → Rose (L.faults link.old) (L.faults link.new) ⊎ Rose (P.faults (keeper_of client.old)) (P.faults (keeper_of client.new)) }
     ensures faults { L.faults link.old ≤ L.faults link.new }
@@ -101,7 +101,7 @@ pub fn upload_all<L: Link, P: Keeper>(
     ensures uploads { OnOk result (UploadsAll service.now (state client.old) (state client.new) (L.closed link.old) (L.closed link.new)) }
     ensures fails { IfErr result (FailsSo service.now (L.closed link.old) (L.closed link.new)) }
     ensures out { L.out link.new ≡ L.out link.old }
-    ensures name { name_of client.new ≡ name_of client.old }
+    ensures name { client_name client.new ≡ client_name client.old }
     ensures failed { result ≡ Err SyncFault.ConnectionFailed
         → Rose (L.faults link.old) (L.faults link.new) ⊎ Rose (P.faults (keeper_of client.old)) (P.faults (keeper_of client.new)) }
     ensures faults { L.faults link.old ≤ L.faults link.new }
@@ -128,7 +128,7 @@ pub fn aim<L: Link, P: Keeper>(
     ensures aims { OnOk result (AimsAt service.now (state client.old) (state client.new) (L.closed link.old) (L.closed link.new)) }
     ensures fails { IfErr result (FailsSo service.now (L.closed link.old) (L.closed link.new)) }
     ensures out { L.out link.new ≡ L.out link.old }
-    ensures name { name_of client.new ≡ name_of client.old }
+    ensures name { client_name client.new ≡ client_name client.old }
     ensures failed { result ≡ Err SyncFault.ConnectionFailed
         → Rose (L.faults link.old) (L.faults link.new) ⊎ Rose (P.faults (keeper_of client.old)) (P.faults (keeper_of client.new)) }
     ensures faults { L.faults link.old ≤ L.faults link.new }

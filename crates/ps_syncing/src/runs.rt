@@ -4,7 +4,7 @@ ghost use Rattle.std.specs.Prelude.{◌≡◌, ◌≢◌, ◌⊎◌, ◌≤◌, 
 ghost use Rattle.std.specs.List.{All};
 ghost use Rattle.ps_io.specs.Counts.{Rose};
 ghost use Rattle.ps_client.specs.LocalWrites.{keeping};
-ghost use Rattle.ps_client.specs.States.{keeper_of, name_of, state};
+ghost use Rattle.ps_client.specs.States.{keeper_of, client_name, state};
 ghost use Rattle.ps_rows.specs.declared.changes.Change.{Change as ChangeSeen};
 ghost use Rattle.ps_progress.specs.Meters.{Hears};
 ghost use Rattle.ps_syncing.specs.Runs.{FailsSo, written_all};
@@ -38,7 +38,7 @@ fn write_all<P: Keeper>(
     requires { All (λ (change : ChangeSeen). change.table ≢ []) changes }
     ensures written { OnOk result (state client.new ≡ keeping (written_all changes (state client.old).kept) (state client.old)) }
     ensures fault { IfErr result IsOfKeeper }
-    ensures name { name_of client.new ≡ name_of client.old }
+    ensures name { client_name client.new ≡ client_name client.old }
     ensures failed { result ≡ Err SyncFault.ConnectionFailed
         → Rose (P.faults (keeper_of client.old)) (P.faults (keeper_of client.new)) }
     ensures kept { P.faults (keeper_of client.old) ≤ P.faults (keeper_of client.new) }
@@ -62,12 +62,12 @@ fn stream_until_applied<R: Wait, L: Link, P: Keeper, G: Sink>(
     client: &mut Client<P>,
     meter: &mut Meter<G>,
 ) -> Result<(), SyncFault>
-    requires { name_of client.old ≡ service.now.client }
+    requires { client_name client.old ≡ service.now.client }
     ensures streams { OnOk result (StreamsUntil service.now (state client.old) (state client.new) (L.closed link.old) (L.closed link.new)) }
     ensures fails { IfErr result (FailsSo service.now (L.closed link.old) (L.closed link.new)) }
     ensures out { L.out link.new ≡ L.out link.old }
     ensures heard { Hears meter.old meter.new }
-    ensures name { name_of client.new ≡ name_of client.old }
+    ensures name { client_name client.new ≡ client_name client.old }
     ensures failed { result ≡ Err SyncFault.ConnectionFailed
         → Rose (L.faults link.old) (L.faults link.new) ⊎ Rose (P.faults (keeper_of client.old)) (P.faults (keeper_of client.new)) }
     ensures faults { L.faults link.old ≤ L.faults link.new }
@@ -104,7 +104,7 @@ pub fn sync_client<R: Wait, L: Link, P: Keeper, G: Sink>(
     client: &mut Client<P>,
     meter: &mut Meter<G>,
 ) -> Result<Vec<u8>, SyncFault>
-    requires name { name_of client.old ≡ service.now.client }
+    requires name { client_name client.old ≡ service.now.client }
     requires tables { All (λ (change : ChangeSeen). change.table ≢ []) changes }
     ensures synced { OnOk result (IsSynced service.now changes (state client.old) (state client.new) (L.closed link.old) (L.closed link.new)) }
     ensures prints { IfOk result (λ text. Prints (state client.new) text.items) }

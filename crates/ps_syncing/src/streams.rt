@@ -8,8 +8,8 @@ ghost use Rattle.ps_answers.specs.Givings.{HasGiven};
 ghost use Rattle.ps_answers.specs.Lines.{line_limit};
 ghost use Rattle.ps_answers.specs.Readers.{left_of};
 ghost use Rattle.ps_client.specs.Clients.{asked};
-ghost use Rattle.ps_client.specs.States.{keeper_of, name_of, state};
-ghost use Rattle.ps_syncing.specs.Beginnings.{HasBegun};
+ghost use Rattle.ps_client.specs.States.{keeper_of, client_name, state};
+ghost use Rattle.ps_syncing.specs.Beginnings.{AnswerHasBegun};
 ghost use Rattle.ps_syncing.specs.Exchanges.{ClosesOne, Sees};
 ghost use Rattle.ps_progress.specs.Meters.{Hears};
 ghost use Rattle.ps_syncing.specs.Lines.{HearsPart, LeavesFew, TakesNext, TakesPart};
@@ -47,7 +47,7 @@ fn take_part<P: Keeper, G: Sink>(
 ) -> Result<Option<Ended>, SyncFault>
     ensures taken { TakesPart (state client.old) (state client.new) line.now result }
     ensures heard { HearsPart meter.old meter.new line.now result }
-    ensures name { name_of client.new ≡ name_of client.old }
+    ensures name { client_name client.new ≡ client_name client.old }
     ensures failed { result ≡ Err SyncFault.ConnectionFailed
         → Rose (P.faults (keeper_of client.old)) (P.faults (keeper_of client.new)) }
     ensures faults { P.faults (keeper_of client.old) ≤ P.faults (keeper_of client.new) }
@@ -78,7 +78,7 @@ fn take_next<S: Source, P: Keeper, G: Sink>(
     ensures ahead { length (left_of reader.old) ≤ line_limit → LeavesFew (left_of reader.new) result }
     ensures told { is_some (S.input from.new) ≡ is_some (S.input from.old) }
     ensures heard { Hears meter.old meter.new }
-    ensures name { name_of client.new ≡ name_of client.old }
+    ensures name { client_name client.new ≡ client_name client.old }
     ensures failed { result ≡ Err SyncFault.ConnectionFailed
         → (0 < S.faults from.new) ⊎ Rose (P.faults (keeper_of client.old)) (P.faults (keeper_of client.new)) }
     ensures faults { P.faults (keeper_of client.old) ≤ P.faults (keeper_of client.new) }
@@ -102,11 +102,11 @@ fn follow<R: Wait, S: Source, P: Keeper, G: Sink>(
     client: &mut Client<P>,
     meter: &mut Meter<G>,
 ) -> Result<Ended, SyncFault>
-    ensures streams { (old : Option Input) (request : List ℕ) → HasBegun old (S.input from.old) begun
+    ensures streams { (old : Option Input) (request : List ℕ) → AnswerHasBegun old (S.input from.old) begun
         → Streams (Sees old (S.input from.new) request) (state client.old) (state client.new) result }
     ensures told { is_some (S.input from.new) ≡ is_some (S.input from.old) }
     ensures heard { Hears meter.old meter.new }
-    ensures name { name_of client.new ≡ name_of client.old }
+    ensures name { client_name client.new ≡ client_name client.old }
     ensures failed { result ≡ Err SyncFault.ConnectionFailed
         → (0 < S.faults from.new) ⊎ Rose (P.faults (keeper_of client.old)) (P.faults (keeper_of client.new)) }
     ensures faults { P.faults (keeper_of client.old) ≤ P.faults (keeper_of client.new) }
@@ -141,7 +141,7 @@ fn watch<R: Wait, S: Source, K: Sink, P: Keeper, G: Sink>(
     ensures took { result ≢ Err SyncFault.ConnectionFailed → Gains (K.taken to.old) (K.taken to.new) request.now }
     ensures told { is_some (S.input from.new) ≡ is_some (S.input from.old) }
     ensures heard { Hears meter.old meter.new }
-    ensures name { name_of client.new ≡ name_of client.old }
+    ensures name { client_name client.new ≡ client_name client.old }
     ensures failed { result ≡ Err SyncFault.ConnectionFailed
         → (0 < S.faults from.new + K.faults to.new) ⊎ Rose (P.faults (keeper_of client.old)) (P.faults (keeper_of client.new)) }
     ensures faults { P.faults (keeper_of client.old) ≤ P.faults (keeper_of client.new) }
@@ -159,11 +159,11 @@ fn request_of<P: Keeper>(
     service: &Service,
     client: &mut Client<P>,
 ) -> Result<Vec<u8>, Memory>
-    requires { name_of client.old ≡ service.now.client }
+    requires { client_name client.old ≡ service.now.client }
     ensures request { IfOk result (λ request. IsStreamRequest service.now (state client.old) request.items) }
     ensures asked { OnOk result (state client.new ≡ asked (state client.old)) }
     ensures keeper { keeper_of client.new ≡ keeper_of client.old }
-    ensures name { name_of client.new ≡ name_of client.old }
+    ensures name { client_name client.new ≡ client_name client.old }
 {
     let body = client.request(alloc)?;
     let body = write_body(alloc, &body)?;
@@ -189,7 +189,7 @@ fn watch_once<R: Wait, L: Link, P: Keeper, G: Sink>(
     ensures streams { Streams (ClosesOne (L.closed link.old) (L.closed link.new) request.now) (state client.old) (state client.new) result }
     ensures out { L.out link.new ≡ L.out link.old }
     ensures heard { Hears meter.old meter.new }
-    ensures name { name_of client.new ≡ name_of client.old }
+    ensures name { client_name client.new ≡ client_name client.old }
     ensures failed { result ≡ Err SyncFault.ConnectionFailed
         → Rose (L.faults link.old) (L.faults link.new) ⊎ Rose (P.faults (keeper_of client.old)) (P.faults (keeper_of client.new)) }
     ensures faults { L.faults link.old ≤ L.faults link.new }
@@ -220,12 +220,12 @@ pub fn stream<R: Wait, L: Link, P: Keeper, G: Sink>(
     client: &mut Client<P>,
     meter: &mut Meter<G>,
 ) -> Result<Ended, SyncFault>
-    requires { name_of client.old ≡ service.now.client }
+    requires { client_name client.old ≡ service.now.client }
     ensures streams { Streams (ClosesStream service.now (state client.old) (L.closed link.old) (L.closed link.new))
         (asked (state client.old)) (state client.new) result }
     ensures out { L.out link.new ≡ L.out link.old }
     ensures heard { Hears meter.old meter.new }
-    ensures name { name_of client.new ≡ name_of client.old }
+    ensures name { client_name client.new ≡ client_name client.old }
     ensures failed { result ≡ Err SyncFault.ConnectionFailed
         → Rose (L.faults link.old) (L.faults link.new) ⊎ Rose (P.faults (keeper_of client.old)) (P.faults (keeper_of client.new)) }
     ensures faults { L.faults link.old ≤ L.faults link.new }

@@ -9,9 +9,9 @@ ghost use Rattle.ps_syncing.specs.Saying.{SaysStop};
 ghost use Rattle.ps_syncing.specs.Syncing.{EndsSo, PrintsSo, RunsSo};
 ghost use Rattle.ps_syncing.specs.Faults.{of_keep as of_keep_means};
 
+use crate::fault_texts::say_stop;
 use crate::preparing::{Prepared, prepare};
 use crate::runs::sync_client;
-use crate::saying::say_stop;
 use crate::stops::stop_of;
 use crate::words::read_words;
 use crate::{Stop, SyncFault};

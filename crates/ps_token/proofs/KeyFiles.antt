@@ -8,7 +8,7 @@ use Rattle.ps_data.specs.Documents.{json_of}
 use Rattle.ps_token.specs.declared.key_lists.Key.{Key}
 use Rattle.ps_token.specs.KeyLists.{are_distinct}
 use Rattle.ps_token.specs.Parts.{bytes_of}
-use Rattle.ps_token.specs.KeyFiles.{text_at, is_oct_key, oct_key, key_in, keys_of, distinct_keys, keys_from, keys_in, keys_of_json, keys_of_file, IsKey, IsOther, AreKeys, no_keys, with_key, passed_over, IsKeyFile}
+use Rattle.ps_token.specs.KeyFiles.{member_text, is_oct_key, oct_key, key_in, keys_of, distinct_keys, keys_from, keys_in, keys_of_json, keys_of_file, IsKey, IsOtherKey, AreKeys, no_keys, with_key, passed_over, IsKeyFile}
 use Rattle.ps_token.proofs.KeyLaws.{distinct_kids, kids_distinct}
 use Rattle.ps_token.proofs.Entries.{read, kept}
 
@@ -41,9 +41,9 @@ type_of (Some kty) b h = (kty, refl, cc)
 
 key_spelled : (d : Json) (key : Key) → is_oct_key d ≡ Some true → oct_key d ≡ Some key → IsKey d key
 key_spelled d key oct h =
-    let kty = type_of (text_at (codes "kty") d) true oct in
-    bind (text_at (codes "kid") d) _ key h (λ kid has_kid h1.
-    bind (text_at (codes "k") d) _ key h1 (λ k has_k h2.
+    let kty = type_of (member_text (codes "kty") d) true oct in
+    bind (member_text (codes "kid") d) _ key h (λ kid has_kid h1.
+    bind (member_text (codes "k") d) _ key h1 (λ k has_k h2.
     bind (bytes_of k) (λ bytes. Some (record { kid = kid; bytes = bytes })) key h2 (λ bytes spells h3.
     let made : Key = record { kid = kid; bytes = bytes } in
     let e : made ≡ key = cc in
@@ -55,9 +55,9 @@ key_spelled d key oct h =
       bytes = spells;
     }))))
 
-other_spelled : (d : Json) → is_oct_key d ≡ Some false → IsOther d
+other_spelled : (d : Json) → is_oct_key d ≡ Some false → IsOtherKey d
 other_spelled d h =
-    let kty = type_of (text_at (codes "kty") d) false h in
+    let kty = type_of (member_text (codes "kty") d) false h in
     record {
       type = kty.0;
       kty = text_there (get (codes "kty") d) kty.0 kty.1;

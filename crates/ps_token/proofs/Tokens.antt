@@ -14,9 +14,9 @@ use Rattle.ps_token.specs.declared.key_lists.Key.{Key}
 use Rattle.ps_token.specs.declared.faults.TokenFault.{TokenFault}
 use Rattle.ps_token.specs.declared.faults.TokenFault.TheVariants.{Malformed, UnknownKey, BadSignature, Expired, NoSubject}
 use Rattle.ps_token.specs.Macs.{hmac}
-use Rattle.ps_token.specs.Members.{◌>>=◌, or_fault, holds}
-use Rattle.ps_token.specs.KeyLists.{key_of, only_key, key_named, HaveDistinctKids}
-use Rattle.ps_token.specs.Parts.{Parts, part_of, bytes_of, joined, parts_of, signed_of}
+use Rattle.ps_token.specs.Members.{◌>>=◌, or_fault, holds_or}
+use Rattle.ps_token.specs.KeyLists.{key_of_kid, only_key, key_named, HaveDistinctKids}
+use Rattle.ps_token.specs.Parts.{Parts, part_of, bytes_of, joined_by_dot, parts_of, signed_of}
 use Rattle.ps_token.specs.Payloads.{json_of_part, is_text, kid_in, kid_of, exp_of, claims_of}
 use Rattle.ps_token.specs.Tokens.{in_time, accepts_parts, accepts, header_json, header_text, unsigned_token, signed_token, IsReadAgain}
 use Rattle.ps_token.specs.Accepted.{Names, IsHeader, IsSigned, Claimed, IsAccepted}
@@ -33,7 +33,7 @@ there : {A : Type 0} (fault : TokenFault) (o : Option A) (x : A) → or_fault fa
 there fault (Some y) x h = cc
 there fault None x h = absurd (cc)
 
-held : (fault : TokenFault) (b : Bool) (u : Unit {0}) → holds fault b ≡ Ok u → b ≡ true
+held : (fault : TokenFault) (b : Bool) (u : Unit {0}) → holds_or fault b ≡ Ok u → b ≡ true
 held fault true u h = refl
 held fault false u h = absurd (cc)
 
@@ -84,7 +84,7 @@ names_found keys (Some json) kid key h named =
 header_found : (keys : List Key) (bytes : List ℕ) (json : Json) (kid : Option (List ℕ)) (key : Key) → json_of bytes ≡ Some json → kid_of json ≡ Ok kid → key_named kid keys ≡ Some key → IsHeader keys bytes key
 header_found keys bytes json kid key is h named =
     let alg = option_and_then as_str (get (codes "alg") json) in
-    bind (holds Malformed (is_text (codes "HS256") alg)) (λ _. kid_in (get (codes "kid") json)) kid h (λ u right more.
+    bind (holds_or Malformed (is_text (codes "HS256") alg)) (λ _. kid_in (get (codes "kid") json)) kid h (λ u right more.
     record {
       json = json;
       read = is;
@@ -109,7 +109,7 @@ claims_found bytes json exp claims is has_exp h =
       refl,
     ))
 
-parts_found : (keys : List Key) (token : List ℕ) (now : ℕ) (claims : Claims) (parts : Parts) → token ≡ joined (signed_of parts) parts.signature → accepts_parts keys parts now ≡ Ok claims → IsAccepted keys token now claims
+parts_found : (keys : List Key) (token : List ℕ) (now : ℕ) (claims : Claims) (parts : Parts) → token ≡ joined_by_dot (signed_of parts) parts.signature → accepts_parts keys parts now ≡ Ok claims → IsAccepted keys token now claims
 parts_found keys token now claims parts spelled h =
     bind (json_of_part parts.header) _ claims h (λ header is_header h1.
     bind (kid_of header) _ claims h1 (λ kid is_kid h2.
@@ -117,8 +117,8 @@ parts_found keys token now claims parts spelled h =
     bind (exp_of payload) _ claims h3 (λ exp is_exp h4.
     bind (or_fault Malformed (bytes_of parts.signature)) _ claims h4 (λ signature is_signature h5.
     bind (or_fault UnknownKey (key_named kid keys)) _ claims h5 (λ key is_key h6.
-    bind (holds BadSignature (bytes_eq signature (hmac key.bytes (signed_of parts)))) (λ _. in_time payload exp now) claims h6 (λ right is_right h7.
-    bind (holds (Expired exp) (nat_lt now exp)) (λ _. claims_of payload exp) claims h7 (λ fresh is_fresh h8.
+    bind (holds_or BadSignature (bytes_eq signature (hmac key.bytes (signed_of parts)))) (λ _. in_time payload exp now) claims h6 (λ right is_right h7.
+    bind (holds_or (Expired exp) (nat_lt now exp)) (λ _. claims_of payload exp) claims h7 (λ fresh is_fresh h8.
     let first = json_found parts.header header is_header in
     let second = json_found parts.payload payload is_payload in
     let says = claims_found second.0 payload exp claims second.2 is_exp h8 in
@@ -169,11 +169,11 @@ named_by keys (Some json) key distinct h =
 header_only : (keys : List Key) (bytes : List ℕ) (key : Key) → HaveDistinctKids keys → (h : IsHeader keys bytes key) → Named keys h.json key
 header_only keys bytes key distinct h =
     let own = named_by keys (get (codes "kid") h.json) key distinct h.names in
-    let right : holds Malformed (is_text (codes "HS256") (option_and_then as_str (get (codes "alg") h.json))) ≡ Ok tt =
-    ap (λ (o : Option Json). holds Malformed (is_text (codes "HS256") (option_and_then as_str o))) h.algorithm in
+    let right : holds_or Malformed (is_text (codes "HS256") (option_and_then as_str (get (codes "alg") h.json))) ≡ Ok tt =
+    ap (λ (o : Option Json). holds_or Malformed (is_text (codes "HS256") (option_and_then as_str o))) h.algorithm in
     record {
       kid = own.0;
-      is = step (holds Malformed (is_text (codes "HS256") (option_and_then as_str (get (codes "alg") h.json)))) (λ _. kid_in (get (codes "kid") h.json)) tt own.0 right own.1;
+      is = step (holds_or Malformed (is_text (codes "HS256") (option_and_then as_str (get (codes "alg") h.json)))) (λ _. kid_in (get (codes "kid") h.json)) tt own.0 right own.1;
       named = own.2;
     }
 
@@ -188,14 +188,14 @@ pub signed_only : (keys : List Key) (token payload : List ℕ) (now : ℕ) (clai
 unfolding accepts
 signed_only keys token payload now claims distinct s claimed fresh free clear =
     let parts : Parts = record { header = s.first; payload = s.second; signature = s.third } in
-    let code = hmac s.key.bytes (joined s.first s.second) in
-    let whole : token ≡ joined s.first (joined s.second s.third) = s.spelled ∙ append_assoc s.first (46 ∷ s.second) (46 ∷ s.third) in
+    let code = hmac s.key.bytes (joined_by_dot s.first s.second) in
+    let whole : token ≡ joined_by_dot s.first (joined_by_dot s.second s.third) = s.spelled ∙ append_assoc s.first (46 ∷ s.second) (46 ∷ s.third) in
     let are : parts_of token ≡ Some parts =
-    ap parts_of whole ∙ parts_are (joined s.first (joined s.second s.third)) s.first (joined s.second s.third) s.second s.third (cut_at s.first (joined s.second s.third) free) (cut_at s.second s.third clear) in
+    ap parts_of whole ∙ parts_are (joined_by_dot s.first (joined_by_dot s.second s.third)) s.first (joined_by_dot s.second s.third) s.second s.third (cut_at s.first (joined_by_dot s.second s.third) free) (cut_at s.second s.third clear) in
     let header = header_only keys s.header s.key distinct s.names in
     let exp_is : exp_of claimed.json ≡ Ok claims.exp = ap (λ (o : Option Json). or_fault Malformed (option_and_then as_u64 (option_and_then as_number o))) claimed.exp in
-    let right : holds BadSignature (bytes_eq code code) ≡ Ok tt = ap (holds BadSignature) ((bytes_eq-Decides code code).1 refl) in
-    let early : holds (Expired claims.exp) (nat_lt now claims.exp) ≡ Ok tt = ap (holds (Expired claims.exp)) (lt-ltb now claims.exp fresh) in
+    let right : holds_or BadSignature (bytes_eq code code) ≡ Ok tt = ap (holds_or BadSignature) ((bytes_eq-Decides code code).1 refl) in
+    let early : holds_or (Expired claims.exp) (nat_lt now claims.exp) ≡ Ok tt = ap (holds_or (Expired claims.exp)) (lt-ltb now claims.exp fresh) in
     step (or_fault Malformed (parts_of token)) (λ p. accepts_parts keys p now) parts claims (ap (or_fault Malformed) are)
     (step (json_of_part s.first) _ s.names.json claims (json_only s.first s.header s.names.json s.header_is s.names.read)
     (step (kid_of s.names.json) _ header.kid claims header.is
@@ -203,14 +203,14 @@ signed_only keys token payload now claims distinct s claimed fresh free clear =
     (step (exp_of claimed.json) _ claims.exp claims exp_is
     (step (or_fault Malformed (bytes_of s.third)) _ code claims (ap (or_fault Malformed) s.signature_is)
     (step (or_fault UnknownKey (key_named header.kid keys)) _ s.key claims (ap (or_fault UnknownKey) header.named)
-    (step (holds BadSignature (bytes_eq code code)) (λ _. in_time claimed.json claims.exp now) tt claims right
-    (step (holds (Expired claims.exp) (nat_lt now claims.exp)) (λ _. claims_of claimed.json claims.exp) tt claims early
+    (step (holds_or BadSignature (bytes_eq code code)) (λ _. in_time claimed.json claims.exp now) tt claims right
+    (step (holds_or (Expired claims.exp) (nat_lt now claims.exp)) (λ _. claims_of claimed.json claims.exp) tt claims early
     (claims_only payload claims claimed)))))))))
 
 pub token_only : (keys : List Key) (token : List ℕ) (now : ℕ) (claims : Claims) → HaveDistinctKids keys → IsBytes token → IsAccepted keys token now claims → accepts keys token now ≡ Ok claims
 token_only keys token now claims distinct small h =
     let s = h.signed in
-    let front : IsBytes (joined s.first s.second) = bytes_front (joined s.first s.second) (46 ∷ s.third) (λ i. subst (λ (t : List ℕ). IsBytes t) s.spelled small i) in
+    let front : IsBytes (joined_by_dot s.first s.second) = bytes_front (joined_by_dot s.first s.second) (46 ∷ s.third) (λ i. subst (λ (t : List ℕ). IsBytes t) s.spelled small i) in
     let back : IsBytes (46 ∷ s.second) = bytes_back s.first (46 ∷ s.second) front in
     signed_only keys token h.payload now claims distinct s h.claimed h.fresh
     (no_dots-spelled s.first s.header (bytes_front s.first (46 ∷ s.second) front) s.header_is)
@@ -218,7 +218,7 @@ token_only keys token now claims distinct small h =
 
 -- ---- what is signed
 
-pub signed_accepted : (keys : List Key) (key : Key) (kid payload token : List ℕ) (claims : Claims) (now : ℕ) → HaveDistinctKids keys → key_of kid keys ≡ Some key
+pub signed_accepted : (keys : List Key) (key : Key) (kid payload token : List ℕ) (claims : Claims) (now : ℕ) → HaveDistinctKids keys → key_of_kid kid keys ≡ Some key
     → IsReadAgain kid payload (hmac key.bytes (unsigned_token kid payload)) → token ≡ signed_token key kid payload → Claimed payload claims → now < claims.exp → accepts keys token now ≡ Ok claims
 signed_accepted keys key kid payload token claims now distinct has again spelled claimed fresh =
     let own = key_found kid keys key has in

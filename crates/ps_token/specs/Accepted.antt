@@ -6,7 +6,7 @@ use Rattle.ps_token.specs.declared.claim_sets.Claims.{Claims}
 use Rattle.ps_token.specs.declared.key_lists.Key.{Key}
 use Rattle.ps_token.specs.KeyFiles.{Has}
 use Rattle.ps_token.specs.Macs.{hmac}
-use Rattle.ps_token.specs.Parts.{bytes_of, joined}
+use Rattle.ps_token.specs.Parts.{bytes_of, joined_by_dot}
 use Rattle.ps_token.specs.Payloads.{plain_text}
 use Rattle.serde_json.specs.Find.{get}
 
@@ -32,13 +32,13 @@ pub record IsSigned (keys : List Key) (token payload : List ℕ) : Type 0 where
   pub first : List ℕ
   pub second : List ℕ
   pub third : List ℕ
-  pub spelled : token ≡ joined (joined first second) third
+  pub spelled : token ≡ joined_by_dot (joined_by_dot first second) third
   pub header : List ℕ
   pub header_is : IsPart first header
   pub payload_is : IsPart second payload
   pub key : Key
   pub names : IsHeader keys header key
-  pub signature_is : IsPart third (hmac key.bytes (joined first second))
+  pub signature_is : IsPart third (hmac key.bytes (joined_by_dot first second))
 
 -- bytes are a payload that makes these claims
 pub record Claimed (bytes : List ℕ) (claims : Claims) : Type 0 where

@@ -16,20 +16,20 @@ infixl 10 ◌>>=◌
 abbrev pub ◌>>=◌ : {A B : Type 0} → Option A → (A → Option B) → Option B
 o >>= f = option_and_then f o
 
-abbrev pub text_at : List ℕ → Json → Option (List ℕ)
-text_at name d = option_and_then as_str (get name d)
+abbrev pub member_text : List ℕ → Json → Option (List ℕ)
+member_text name d = option_and_then as_str (get name d)
 
 -- a key of the type `oct`
 abbrev pub oct_key : Json → Option Key
 oct_key d = do
-  kid ← text_at (codes "kid") d
-  k ← text_at (codes "k") d
+  kid ← member_text (codes "kid") d
+  k ← member_text (codes "k") d
   bytes ← bytes_of k
   Some (record { kid = kid; bytes = bytes })
 
 -- whether an entry is of the type `oct`
 abbrev pub is_oct_key : Json → Option Bool
-is_oct_key d = option_map (λ kty. bytes_eq kty (codes "oct")) (text_at (codes "kty") d)
+is_oct_key d = option_map (λ kty. bytes_eq kty (codes "oct")) (member_text (codes "kty") d)
 
 -- the key that an entry is: none where it is of another type
 abbrev pub key_in : Json → Option (List Key)
@@ -88,7 +88,7 @@ pub record IsKey (d : Json) (key : Key) : Type 0 where
   pub bytes : bytes_of text ≡ Some key.bytes
 
 -- an entry is a key of another type
-pub record IsOther (d : Json) : Type 0 where
+pub record IsOtherKey (d : Json) : Type 0 where
   pub type : List ℕ
   pub kty : Has (codes "kty") (string type) d
   pub other : type ≢ codes "oct"
@@ -97,7 +97,7 @@ pub record IsOther (d : Json) : Type 0 where
 pub data AreKeys : Items → List Key → Type 0 where
   no_keys : AreKeys no_items []
   with_key : (d : Json) (ds : Items) (key : Key) (keys : List Key) → IsKey d key → AreKeys ds keys → AreKeys (item d ds) (key ∷ keys)
-  passed_over : (d : Json) (ds : Items) (keys : List Key) → IsOther d → AreKeys ds keys → AreKeys (item d ds) keys
+  passed_over : (d : Json) (ds : Items) (keys : List Key) → IsOtherKey d → AreKeys ds keys → AreKeys (item d ds) keys
 
 -- bytes that are a key file of these keys
 pub record IsKeyFile (bytes : List ℕ) (keys : List Key) : Type 0 where

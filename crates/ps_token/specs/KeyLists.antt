@@ -10,31 +10,31 @@ abbrev pub has_kid : List ℕ → Key → Bool
 has_kid kid key = bytes_eq key.kid kid
 
 -- the key of a kid
-abbrev pub key_of : List ℕ → List Key → Option Key
-key_of kid keys = find (has_kid kid) keys
+abbrev pub key_of_kid : List ℕ → List Key → Option Key
+key_of_kid kid keys = find (has_kid kid) keys
 
 -- the place of the key of a kid
-abbrev pub place_of : List ℕ → List Key → Option ℕ
-place_of kid [] = None
-place_of kid (key ∷ keys) = if has_kid kid key then Some 0 else option_map (λ place. suc place) (place_of kid keys)
+abbrev pub kid_place : List ℕ → List Key → Option ℕ
+kid_place kid [] = None
+kid_place kid (key ∷ keys) = if has_kid kid key then Some 0 else option_map (λ place. suc place) (kid_place kid keys)
 
 -- no kid stands twice
 abbrev pub are_distinct : List Key → Bool
 are_distinct [] = true
-are_distinct (key ∷ keys) = not (is_some (place_of key.kid keys)) && are_distinct keys
+are_distinct (key ∷ keys) = not (is_some (kid_place key.kid keys)) && are_distinct keys
 
 -- the same, of each two keys
 abbrev pub HaveDistinctKids : List Key → Type 0
 HaveDistinctKids keys = AllPairs (λ (a b : Key). a.kid ≢ b.kid) keys
 
 -- where each kid is found
-abbrev pub Finds : BTreeMap (List ℕ) ℕ → List Key → Type 0
-Finds places keys = (kid : List ℕ) → get (slice_cmp nat_cmp) places kid ≡ place_of kid keys
+abbrev pub FindsKeys : BTreeMap (List ℕ) ℕ → List Key → Type 0
+FindsKeys places keys = (kid : List ℕ) → get (slice_cmp nat_cmp) places kid ≡ kid_place kid keys
 
 -- keys of which no kid stands twice, and where each is found
 pub record AreIndexed (places : BTreeMap (List ℕ) ℕ) (keys : List Key) : Type 0 where
   pub distinct : are_distinct keys ≡ true
-  pub finds : Finds places keys
+  pub finds : FindsKeys places keys
 
 -- the key that a kid names: where there is none it is the only key
 abbrev pub only_key : List Key → Option Key
@@ -43,5 +43,5 @@ only_key (key ∷ []) = Some key
 only_key (key ∷ other ∷ keys) = None
 
 abbrev pub key_named : Option (List ℕ) → List Key → Option Key
-key_named (Some kid) keys = key_of kid keys
+key_named (Some kid) keys = key_of_kid kid keys
 key_named None keys = only_key keys

@@ -18,9 +18,9 @@ or_fault fault (Some x) = Ok x
 or_fault fault None = Err fault
 
 -- a test holds, or else a fault
-abbrev pub holds : {E : Type 0} → E → Bool → Result (Unit {0}) E
-holds fault true = Ok tt
-holds fault false = Err fault
+abbrev pub holds_or : {E : Type 0} → E → Bool → Result (Unit {0}) E
+holds_or fault true = Ok tt
+holds_or fault false = Err fault
 
 -- an answer by what is seen of it
 abbrev pub seen_by : {X Y E : Type 0} → (X → Y) → Result X E → Result Y E

@@ -12,13 +12,13 @@ unfoldable pub bytes_of : List ℕ → Option (List ℕ)
 bytes_of text = decoded_of url_safe_no_pad text
 
 -- two texts with a dot between them
-abbrev pub joined : List ℕ → List ℕ → List ℕ
-joined text other = text ++ 46 ∷ other
+abbrev pub joined_by_dot : List ℕ → List ℕ → List ℕ
+joined_by_dot text other = text ++ 46 ∷ other
 
 -- what stands before the first dot, and what stands behind it
-abbrev pub cut : List ℕ → Option (List ℕ × List ℕ)
-cut [] = None
-cut (byte ∷ text) = if byte == 46 then Some ([], text) else option_map (λ parts. (byte ∷ parts.0, parts.1)) (cut text)
+abbrev pub cut_at_dot : List ℕ → Option (List ℕ × List ℕ)
+cut_at_dot [] = None
+cut_at_dot (byte ∷ text) = if byte == 46 then Some ([], text) else option_map (λ parts. (byte ∷ parts.0, parts.1)) (cut_at_dot text)
 
 pub record Parts : Type 0 where
   pub header : List ℕ
@@ -27,8 +27,8 @@ pub record Parts : Type 0 where
 
 -- what stands before the first dot, before the next one, and behind that
 abbrev pub parts_of : List ℕ → Option Parts
-parts_of token = option_and_then (λ front. option_map (λ back. record { header = front.0; payload = back.0; signature = back.1 }) (cut front.1)) (cut token)
+parts_of token = option_and_then (λ front. option_map (λ back. record { header = front.0; payload = back.0; signature = back.1 }) (cut_at_dot front.1)) (cut_at_dot token)
 
 -- what is signed: the first two parts with their dot
 abbrev pub signed_of : Parts → List ℕ
-signed_of parts = joined parts.header parts.payload
+signed_of parts = joined_by_dot parts.header parts.payload

@@ -8,7 +8,7 @@ use Rattle.ps_data.specs.Documents.{json_of}
 use Rattle.ps_token.specs.declared.claim_sets.Claims.{Claims}
 use Rattle.ps_token.specs.declared.faults.TokenFault.{TokenFault}
 use Rattle.ps_token.specs.declared.faults.TokenFault.TheVariants.{Malformed, NoSubject}
-use Rattle.ps_token.specs.Members.{◌>>=◌, or_fault, holds}
+use Rattle.ps_token.specs.Members.{◌>>=◌, or_fault, holds_or}
 use Rattle.ps_token.specs.Parts.{bytes_of}
 
 -- the JSON of a part
@@ -29,7 +29,7 @@ kid_in (Some json) = or_fault Malformed (as_str json) >>= λ kid. Ok (Some kid)
 -- the kid of a header, whose algorithm is HS256
 abbrev pub kid_of : Json → Result (Option (List ℕ)) TokenFault
 kid_of header = do
-  _ ← holds Malformed (is_text (codes "HS256") (option_and_then as_str (get (codes "alg") header)))
+  _ ← holds_or Malformed (is_text (codes "HS256") (option_and_then as_str (get (codes "alg") header)))
   kid_in (get (codes "kid") header)
 
 -- the expiry of a payload: a whole number from 0

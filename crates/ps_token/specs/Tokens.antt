@@ -11,9 +11,9 @@ use Rattle.ps_token.specs.declared.faults.TokenFault.TheVariants as token
 use Rattle.ps_token.specs.declared.faults.SignFault.{SignFault}
 use Rattle.ps_token.specs.declared.faults.SignFault.TheVariants as sign
 use Rattle.ps_token.specs.Macs.{hmac}
-use Rattle.ps_token.specs.Members.{◌>>=◌, or_fault, holds}
-use Rattle.ps_token.specs.KeyLists.{key_of, key_named}
-use Rattle.ps_token.specs.Parts.{Parts, part_of, bytes_of, joined, parts_of, signed_of}
+use Rattle.ps_token.specs.Members.{◌>>=◌, or_fault, holds_or}
+use Rattle.ps_token.specs.KeyLists.{key_of_kid, key_named}
+use Rattle.ps_token.specs.Parts.{Parts, part_of, bytes_of, joined_by_dot, parts_of, signed_of}
 use Rattle.ps_token.specs.Payloads.{json_of_part, kid_of, exp_of, claims_of}
 
 -- ---- what is accepted
@@ -21,7 +21,7 @@ use Rattle.ps_token.specs.Payloads.{json_of_part, kid_of, exp_of, claims_of}
 -- what a token says whose signature is right, at a second
 abbrev pub in_time : Json → ℕ → ℕ → Result Claims TokenFault
 in_time payload exp now = do
-  _ ← holds (Expired exp) (nat_lt now exp)
+  _ ← holds_or (Expired exp) (nat_lt now exp)
   claims_of payload exp
 
 -- a token of these parts: all of them are read before a key is looked for
@@ -33,7 +33,7 @@ accepts_parts keys parts now = do
   exp ← exp_of payload
   signature ← or_fault Malformed (bytes_of parts.signature)
   key ← or_fault token.UnknownKey (key_named kid keys)
-  _ ← holds BadSignature (bytes_eq signature (hmac key.bytes (signed_of parts)))
+  _ ← holds_or BadSignature (bytes_eq signature (hmac key.bytes (signed_of parts)))
   in_time payload exp now
 
 -- what a token says under keys at a second, or the first refusal
@@ -52,11 +52,11 @@ unfoldable pub header_text : List ℕ → List ℕ
 header_text kid = compact_text (header_json kid)
 
 abbrev pub unsigned_token : List ℕ → List ℕ → List ℕ
-unsigned_token kid payload = joined (part_of (header_text kid)) (part_of payload)
+unsigned_token kid payload = joined_by_dot (part_of (header_text kid)) (part_of payload)
 
 -- a payload with its header, signed with a key
 abbrev pub signed_token : Key → List ℕ → List ℕ → List ℕ
-signed_token key kid payload = joined (unsigned_token kid payload) (part_of (hmac key.bytes (unsigned_token kid payload)))
+signed_token key kid payload = joined_by_dot (unsigned_token kid payload) (part_of (hmac key.bytes (unsigned_token kid payload)))
 
 -- what is written into a token is read again
 pub record IsReadAgain (kid payload signature : List ℕ) : Type 0 where
@@ -68,5 +68,5 @@ pub record IsReadAgain (kid payload signature : List ℕ) : Type 0 where
 -- a payload signed with the key of a kid
 unfoldable pub token_of : List Key → List ℕ → List ℕ → Result (List ℕ) SignFault
 token_of keys kid payload = do
-  key ← or_fault sign.UnknownKey (key_of kid keys)
+  key ← or_fault sign.UnknownKey (key_of_kid kid keys)
   Ok (signed_token key kid payload)

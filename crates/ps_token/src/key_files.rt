@@ -4,7 +4,7 @@ ghost use Rattle.ps_token.specs.Types.{Key as KeyData};
 ghost use Rattle.serde_json.specs.View.{view, items_view};
 ghost use Rattle.ps_token.specs.declared.faults.KeysFault.TheVariants.{BadJson, BadShape};
 ghost use Rattle.ps_token.specs.Members.{ReadsKeys, or_fault};
-ghost use Rattle.ps_token.specs.KeyFiles.{text_at, is_oct_key, oct_key, distinct_keys, one_more, keys_in, keys_from, keys_of_file, IsKeyFile};
+ghost use Rattle.ps_token.specs.KeyFiles.{member_text, is_oct_key, oct_key, distinct_keys, one_more, keys_in, keys_from, keys_of_file, IsKeyFile};
 
 use crate::parts::decoded;
 use crate::{Key, Keys, KeysFault};
@@ -107,7 +107,7 @@ fn read_key(alloc: Global, entry: &Json) -> Result<Key, KeysFault>
 }
 
 fn read_text(alloc: Global, json: &Json, name: &str) -> Result<Text, KeysFault>
-    ensures { ReadsKeys result (or_fault BadShape (text_at name.now (view json.now))) }
+    ensures { ReadsKeys result (or_fault BadShape (member_text name.now (view json.now))) }
 {
     match json.get(name).and_then(Json::as_str) {
         Some(text) => Ok(Text::from_str(alloc, text)?),

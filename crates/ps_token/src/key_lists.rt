@@ -1,6 +1,6 @@
 ghost use Rattle.std.specs.Prelude.{◌≡◌, [], ◌∷◌, ◌++◌, true, not, IfOk};
 ghost use Rattle.std.specs.Option.{option_copied};
-ghost use Rattle.ps_token.specs.KeyLists.{key_of, are_distinct, HaveDistinctKids, key_named};
+ghost use Rattle.ps_token.specs.KeyLists.{key_of_kid, are_distinct, HaveDistinctKids, key_named};
 
 use ps_data::{Items, Memory, Text};
 use std::alloc::Global;
@@ -77,7 +77,7 @@ impl Keys {
 
     /// The key of a kid; None exactly where no key has it.
     pub fn find(&self, kid: &Text) -> Option<&Key>
-        ensures { option_copied result ≡ key_of kid.now self.now }
+        ensures { option_copied result ≡ key_of_kid kid.now self.now }
     {
         let place = self.places.get(kid)?;
         self.keys.get(*place)

@@ -1,5 +1,5 @@
 ghost use Rattle.std.specs.Prelude.{◌≡◌, ◌+◌, Some, length, IfOk, IfSome, option_map, string_bytes};
-ghost use Rattle.ps_token.specs.Parts.{part_of, bytes_of, cut as cut_at_dot};
+ghost use Rattle.ps_token.specs.Parts.{part_of, bytes_of, cut_at_dot as cut_at_dot};
 ghost use Rattle.ps_token.specs.Seen.{IsSplit};
 
 use base64::DecodeAllocError;

@@ -5,7 +5,7 @@ ghost use Rattle.ps_token.specs.Types.{Claims as ClaimsData};
 ghost use Rattle.ps_token.specs.declared.faults.TokenFault.TheVariants as faults;
 ghost use Rattle.ps_token.specs.Accepted.{IsAccepted};
 ghost use Rattle.ps_token.specs.Members.{Verifies};
-ghost use Rattle.ps_token.specs.Seen.{seen};
+ghost use Rattle.ps_token.specs.Seen.{held_parts};
 ghost use Rattle.ps_token.specs.Tokens.{accepts, accepts_parts, in_time};
 
 use crate::macs::{mac, same_code};
@@ -49,8 +49,8 @@ fn verify_parts(
     parts: Parts<'_>,
     now: u64,
 ) -> Result<Claims, TokenFault>
-    requires { parts.signed.now ≡ signed_of (seen parts) }
-    ensures { Verifies result (accepts_parts keys.now (seen parts.entry) now) }
+    requires { parts.signed.now ≡ signed_of (held_parts parts) }
+    ensures { Verifies result (accepts_parts keys.now (held_parts parts.entry) now) }
 {
     let header = read_part(alloc, parts.header)?;
     let kid = read_kid(alloc, &header)?;

@@ -7,7 +7,7 @@ use Rattle.serde_json.specs.Written.{has_float, items_have_float, members_have_f
 use Rattle.ps_values.specs.declared.conversions.ValueFault.{ValueFault}
 use Rattle.ps_values.specs.declared.conversions.ValueFault.TheVariants.{TooBig, Memory}
 use Rattle.ps_data.specs.declared.values.Value.TheVariants.{Text}
-use Rattle.ps_data.specs.Conversions.{value_of, plain_number, plain_of, plain_items, plain_members}
+use Rattle.ps_data.specs.Conversions.{json_value, plain_number, plain_of, plain_items, plain_members}
 use Rattle.ps_values.specs.ValueFaults.{number_fault, first_fault, numbers_of, numbers_of_items, numbers_of_members}
 use Rattle.std.proofs.lemmas.List.{drop_more}
 use Rattle.std.specs.List.Sorted.{IsStrictlySortedBy}
@@ -68,11 +68,11 @@ mutual
       neither (has_float d) (members_have_float ms) (floatless d none.0) (members_floatless ms none.1)
 
 -- the text of an array or an object without a fault
-pub text_of_array : (d : Data) (ds : Items) (text : List ℕ) → d ≡ array ds → first_fault (numbers_of d) ≡ None → (has_float d ≡ false → text ≡ compact_text d) → Text text ≡ value_of d
-text_of_array d ds text is none written = ap Text (written (floatless d none)) ∙ sym (ap value_of is ∙ ap (λ x. Text (compact_text x)) (sym is))
+pub text_of_array : (d : Data) (ds : Items) (text : List ℕ) → d ≡ array ds → first_fault (numbers_of d) ≡ None → (has_float d ≡ false → text ≡ compact_text d) → Text text ≡ json_value d
+text_of_array d ds text is none written = ap Text (written (floatless d none)) ∙ sym (ap json_value is ∙ ap (λ x. Text (compact_text x)) (sym is))
 
-pub text_of_object : (d : Data) (ms : Members) (text : List ℕ) → d ≡ object ms → first_fault (numbers_of d) ≡ None → (has_float d ≡ false → text ≡ compact_text d) → Text text ≡ value_of d
-text_of_object d ms text is none written = ap Text (written (floatless d none)) ∙ sym (ap value_of is ∙ ap (λ x. Text (compact_text x)) (sym is))
+pub text_of_object : (d : Data) (ms : Members) (text : List ℕ) → d ≡ object ms → first_fault (numbers_of d) ≡ None → (has_float d ≡ false → text ≡ compact_text d) → Text text ≡ json_value d
+text_of_object d ms text is none written = ap Text (written (floatless d none)) ∙ sym (ap json_value is ∙ ap (λ x. Text (compact_text x)) (sym is))
 
 null_or : (b : Bool) (n : ℕ) → has_float (cond b (number (unsigned n)) null) ≡ false
 null_or true n = refl

@@ -7,7 +7,7 @@ use Rattle.std.specs.Ordering.{ordering_reverse}
 use Rattle.serde_json.specs.Data.{Members, no_members, member, put}
 use Rattle.ps_data.specs.declared.columns.Column.{Column}
 use Rattle.ps_data.specs.Documents.{data_of, with_columns, members_of}
-use Rattle.ps_values.specs.Writing.{listed, RiseAbove, Rise}
+use Rattle.ps_values.specs.Writing.{listed, RiseAbove, NamesRise}
 
 below_from : (a b : List ℕ) → slice_cmp nat_cmp b a ≡ Greater → slice_cmp nat_cmp a b ≡ Less
 below_from a b h = nat_list_cmp_total.antisymm a b ∙ ap ordering_reverse h
@@ -42,6 +42,6 @@ rising ms c [] above h = put_last ms c above
 rising ms c (d ∷ cs) above h =
     ap (λ m. with_columns m (d ∷ cs)) (put_last ms c above) ∙ rising (behind ms (c ∷ [])) d cs (above_more ms c d.name h.0 above) h.1 ∙ behind_more ms c (d ∷ cs)
 
-pub rising_listed : (cs : List Column) → Rise cs → members_of cs ≡ listed cs
+pub rising_listed : (cs : List Column) → NamesRise cs → members_of cs ≡ listed cs
 rising_listed [] h = refl
 rising_listed (c ∷ cs) h = rising no_members c cs tt h

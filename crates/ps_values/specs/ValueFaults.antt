@@ -3,7 +3,7 @@ use Rattle.std.specs.Prelude.{◌≡◌, ◌^◌, List, [], ◌∷◌, ◌++◌,
 use Rattle.std.specs.Option.{option_or}
 use Rattle.serde_json.specs.Data.{Num, unsigned, negative, float, Data, null, boolean, number, string, array, object, Items, no_items, item, Members, no_members, member}
 use Rattle.ps_data.specs.declared.values.Value.{Value}
-use Rattle.ps_data.specs.Conversions.{value_of}
+use Rattle.ps_data.specs.Conversions.{json_value}
 use Rattle.ps_values.specs.declared.conversions.ValueFault.{ValueFault}
 use Rattle.ps_values.specs.declared.conversions.ValueFault.TheVariants.{NotWhole, TooBig, Memory}
 
@@ -39,7 +39,7 @@ abbrev mutual
 -- JSON is a value exactly where none of its numbers has a fault; else the fault is that of the first one that has, which is known before any
 -- memory is taken
 abbrev pub IsValueOf : Data → Result Value ValueFault → Type 0
-IsValueOf d (Ok value) = (first_fault (numbers_of d) ≡ None) × (value ≡ value_of d)
+IsValueOf d (Ok value) = (first_fault (numbers_of d) ≡ None) × (value ≡ json_value d)
 IsValueOf d (Err NotWhole) = first_fault (numbers_of d) ≡ Some NotWhole
 IsValueOf d (Err TooBig) = first_fault (numbers_of d) ≡ Some TooBig
 IsValueOf d (Err Memory) = first_fault (numbers_of d) ≡ None

@@ -44,6 +44,6 @@ abbrev pub RiseAbove : List ℕ → List Column → Type 0
 RiseAbove name [] = ⊤
 RiseAbove name (column ∷ columns) = (slice_cmp nat_cmp column.name name ≡ Greater) × RiseAbove column.name columns
 
-abbrev pub Rise : List Column → Type 0
-Rise [] = ⊤
-Rise (column ∷ columns) = RiseAbove column.name columns
+abbrev pub NamesRise : List Column → Type 0
+NamesRise [] = ⊤
+NamesRise (column ∷ columns) = RiseAbove column.name columns

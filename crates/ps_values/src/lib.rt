@@ -3,17 +3,13 @@
 
 mod conversions;
 mod documents;
-mod laws;
+pub mod laws;
 mod numbers;
 mod values;
 mod writing;
 
 pub use conversions::{ValueFault, plain, plain_json, value_of_json};
 pub use documents::{document, json_of_value, object_of_columns, quoted, read_json, text_of_json};
-pub use laws::{
-    compare_is_a_total_order, decimals_read_back, equal_where_both_are_present,
-    plain_json_has_no_float,
-};
 pub use numbers::{decimal, read_decimal};
 pub use ps_data::{
     Boxed, Column, Copied, GREATEST, Items, Memory, OpId, Position, Text, TextFault, Truth, Value,

@@ -3,7 +3,7 @@ ghost use Rattle.std.specs.Bool.{OnTrue};
 ghost use Rattle.json.specs.Print.{print};
 ghost use Rattle.serde_json.specs.Data.{Members, member, no_members, string};
 ghost use Rattle.ps_data.specs.Documents.{data_of, members_of};
-ghost use Rattle.ps_values.specs.Writing.{value_tokens, member_tokens, members_tokens, listed, paired, with_id, Rise, RiseAbove};
+ghost use Rattle.ps_values.specs.Writing.{value_tokens, member_tokens, members_tokens, listed, paired, with_id, NamesRise, RiseAbove};
 
 use json::Writer;
 use ps_data::{Column, Memory, Text, Value};
@@ -50,7 +50,7 @@ pub(crate) fn room(id: &Text, columns: &[Column]) -> usize {
 
 // Whether columns stand in the order of their names, with no name twice.
 fn rise(columns: &[Column]) -> bool
-    ensures { OnTrue result (Rise columns.now) }
+    ensures { OnTrue result (NamesRise columns.now) }
 {
     match columns {
         [first, rest @ ..] => rise_above(&first.name, rest),

@@ -8,15 +8,15 @@ use Rattle.ps_store.specs.declared.events.Event.{Event}
 use Rattle.ps_store.specs.declared.events.Event.TheVariants.{Feed, Close, Write, Commit, Compact, WriteCheckpoint, Deploy, Build, Switch, Abandon}
 use Rattle.ps_store.specs.declared.fixed.Fixed.{Fixed}
 use Rattle.ps_store.specs.declared.reach.End.{End}
-use Rattle.ps_store.specs.Generations.{Lane, Coming, queue_in, is_of}
+use Rattle.ps_store.specs.Generations.{Lane, Coming, queue_in, is_of_generation}
 use Rattle.ps_store.specs.Histories.{has_deploy}
 use Rattle.ps_store.specs.LedgerLaws.{moves_checkpoint}
-use Rattle.ps_store.specs.Ledgers.{Ledger, fresh, ledger_after, ledger_of, head_of, unwritten, IsLegalFrom, force_ops}
+use Rattle.ps_store.specs.Ledgers.{Ledger, fresh_ledger, ledger_after, ledger_of, head_of, unwritten, IsLegalFrom, force_ops}
 use Rattle.ps_store.specs.declared.entered.Entered.{Entered}
 use Rattle.ps_store.specs.Originals.{Timed, in_bucket}
 use Rattle.ps_store.specs.Stores.{IsKept}
-use Rattle.ps_store.specs.Tails.{EndsRise, last_end, positions_of, timed_positions}
-use Rattle.ps_store.specs.Totals.{bucket_names_of, in_generation, names_of}
+use Rattle.ps_store.specs.Tails.{EndsRise, last_end, end_positions, timed_positions}
+use Rattle.ps_store.specs.Totals.{bucket_names_of, in_generation, buckets_entered}
 use Rattle.ps_store.specs.TotalsLaws.{BucketNamesTell}
 use Rattle.ps_workers.specs.declared.looks.Look.{Look}
 use Rattle.ps_workers.specs.declared.shared.Terms.{Terms}
@@ -63,7 +63,7 @@ module _ (terms : Terms) (history : List Event) (stood : IsStoodFor terms histor
   all_written at_head =
       let l = ledger_of fixed.rules history in
       let none : l.reach.left ≡ [] = none_left l.reach.position l.reach.left kept.ends_rise (omega (arith, at_head, kept.checkpoint, kept.last_is_head)) in
-      no_positions (unwritten l) (kept.tied.positions ∙ (ap (λ (es : List End). drop l.reach.over (positions_of es)) none ∙ drop-nil l.reach.over))
+      no_positions (unwritten l) (kept.tied.positions ∙ (ap (λ (es : List End). drop l.reach.over (end_positions es)) none ∙ drop-nil l.reach.over))
 
   -- so the store is drained where nothing more is fed, the checkpoint is at the head, and nothing is being built
   drained_at : (ledger_of fixed.rules history).closed ≡ true → (ledger_of fixed.rules history).position ≡ head_of (ledger_of fixed.rules history).fed
@@ -169,8 +169,8 @@ module _ (terms : Terms) (front back : List Event) where
         reached = reached_is terms front over.stood over.drained.committed;
         alone = over.drained.alone;
       } in
-      let kept = still_stays back l still (legal_behind front back (fresh fixed.rules) stood.1.stands.legal) (plain_behind front back plain) in
-      let same : ledger_of fixed.rules (front ++ back) ≡ fold ledger_after l back = fold-append ledger_after (fresh fixed.rules) front back in
+      let kept = still_stays back l still (legal_behind front back (fresh_ledger fixed.rules) stood.1.stands.legal) (plain_behind front back plain) in
+      let same : ledger_of fixed.rules (front ++ back) ≡ fold ledger_after l back = fold-append ledger_after (fresh_ledger fixed.rules) front back in
       let later : Stays l (ledger_of fixed.rules (front ++ back)) = subst (λ (x : Ledger). Stays l x) (sym same) kept.0 in
       record {
         over = record {
@@ -182,7 +182,7 @@ module _ (terms : Terms) (front back : List Event) where
             alone = later.still.alone;
           };
         };
-        names = ap (λ (x : Lane). names_of (in_generation x.number (ledger_of fixed.rules (front ++ back)).entered)) later.force ∙ ap (λ (es : List Entered). names_of (in_generation l.force.number es)) later.entered;
+        names = ap (λ (x : Lane). buckets_entered (in_generation x.number (ledger_of fixed.rules (front ++ back)).entered)) later.force ∙ ap (λ (es : List Entered). buckets_entered (in_generation l.force.number es)) later.entered;
         no_commit = kept.1;
       }
 
@@ -231,4 +231,4 @@ has_operation fixed tell history names k d less names_are none =
     let name = get_or names k d in
     let here : list_any (bytes_eq name) (bucket_names_of l) ≡ true = subst (λ (xs : List (List ℕ)). list_any (bytes_eq name) xs ≡ true) names_are (among names k d less) in
     let has = ((tell fixed.rules history).exactly name).0 here in
-    has.1 (chosen (is_of l.force.number name) (in_bucket name l.entered) [] has.0 none)
+    has.1 (chosen (is_of_generation l.force.number name) (in_bucket name l.entered) [] has.0 none)

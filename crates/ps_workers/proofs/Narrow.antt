@@ -12,7 +12,7 @@ use Rattle.ps_store.specs.declared.stores.Store.{Store}
 use Rattle.ps_store.specs.Generations.{Coming, queue_in}
 use Rattle.ps_store.specs.Histories.{has_deploy}
 use Rattle.ps_store.specs.Keeping.{IsNarrow, AreNarrow, IsLockHistory}
-use Rattle.ps_store.specs.Ledgers.{Ledger, fresh, timed_of, unwritten, entries_after, next_ops, write_next, build_with, build_next, switch_to, ledger_after, ledger_of, CanCome, IsLegalFrom}
+use Rattle.ps_store.specs.Ledgers.{Ledger, fresh_ledger, timed_of, unwritten, entries_after, next_ops, write_next, build_with, build_next, switch_to, ledger_after, ledger_of, CanCome, IsLegalFrom}
 use Rattle.ps_store.specs.Originals.{Timed, timed, key_of, entries_at}
 use Rattle.ps_store.specs.Runs.{refusal_of, run_from, stopped}
 use Rattle.ps_store.specs.Stores.{StoreStandsFor, next_run}
@@ -62,7 +62,7 @@ module _ (fixed : Fixed) (history : List Event) (h : IsLockHistory fixed history
 
   after_event : (event : Event) → has_deploy (event ∷ []) ≡ false → AreNarrow fixed (ledger_after l event) → IsLockHistory fixed (history ++ event ∷ [])
   after_event event own narrow =
-      (subst (AreNarrow fixed) (sym (fold_more ledger_after (fresh fixed.rules) history event)) narrow, plain_push history event h.1 own)
+      (subst (AreNarrow fixed) (sym (fold_more ledger_after (fresh_ledger fixed.rules) history event)) narrow, plain_push history event h.1 own)
 
   pub close_kept : IsLockHistory fixed (history ++ Close ∷ [])
   close_kept = after_event Close refl h.0
@@ -212,7 +212,7 @@ module _ (terms : Terms) (shared : SharedStore) (history : List Event) (kept : K
   may_deploy rules is = record { deploys = is; narrow = λ none. let wrong : None ≡ Some rules = sym none ∙ is in absurd (cc wrong) }
 
   after_narrow : (event : Event) → AreNarrow terms.fixed (ledger_after (ledger_of terms.fixed.rules history) event) → AreNarrow terms.fixed (ledger_of terms.fixed.rules (history ++ event ∷ []))
-  after_narrow event narrow = subst (AreNarrow terms.fixed) (sym (fold_more ledger_after (fresh terms.fixed.rules) history event)) narrow
+  after_narrow event narrow = subst (AreNarrow terms.fixed) (sym (fold_more ledger_after (fresh_ledger terms.fixed.rules) history event)) narrow
 
   pub may_build : (n : ℕ) → MayCome terms history (Build n)
   may_build n =

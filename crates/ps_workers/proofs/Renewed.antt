@@ -22,7 +22,7 @@ use Rattle.ps_store.specs.declared.stores.Checkpoint.{Checkpoint}
 use Rattle.ps_store.specs.Deploys.{as_force, run_in, IsUnbuilt}
 use Rattle.ps_store.specs.Generations.{Coming, queue_in}
 use Rattle.ps_store.specs.Histories.{has_deploy, LedgersTellOneGeneration}
-use Rattle.ps_store.specs.Ledgers.{Ledger, fresh, unwritten, write_next, build_with, build_next, switch_to, drop_coming, ledger_after, ledger_of}
+use Rattle.ps_store.specs.Ledgers.{Ledger, fresh_ledger, unwritten, write_next, build_with, build_next, switch_to, drop_coming, ledger_after, ledger_of}
 use Rattle.ps_store.specs.LongestRuns.{RunsAreLongest}
 use Rattle.ps_store.specs.Originals.{Timed}
 use Rattle.ps_store.specs.Readings.{building_of, committed_of}
@@ -35,7 +35,7 @@ use Rattle.ps_workers.specs.declared.stages.Pace.TheVariants.{On, Over}
 use Rattle.ps_workers.specs.declared.stages.Stage.{Stage}
 use Rattle.ps_workers.specs.declared.stages.Stage.TheVariants.{Waiting, Building, NoneToCome}
 use Rattle.ps_workers.specs.Renewals.{DeploysIn, BuildsIn, SwitchesIn, IsUnswitched}
-use Rattle.ps_workers.specs.Renewing.{IsUnder, IsAt, IsNotDue, AreNext, stage_for, past_deploy, past_build, past_switch, DeploysNext, BuildsNext, SwitchesNext, GoesOn}
+use Rattle.ps_workers.specs.Renewing.{IsUnder, IsAtStage, IsNotDue, AreNext, stage_for, past_deploy, past_build, past_switch, DeploysNext, BuildsNext, SwitchesNext, GoesOn}
 use Rattle.ps_workers.specs.Terms.{IsStoodFor}
 use Rattle.ps_workers.specs.Work.{HasWritten, HadNewRules, NoneIsDue}
 use Rattle.ps_workers.proofs.Working.{prefix_self, written_looking, written_adding}
@@ -116,7 +116,7 @@ begun_stays (Abandon ∷ events) l plain = begun_stays events (ledger_after l Ab
 had_full_at : (fixed : Fixed) (history : List Event) → fixed.limits.generations ≤ (ledger_of fixed.rules history).begun
     → (has_deploy history ≡ true) ⊎ (has_deploy history ≡ false) → HadNewRules fixed history
 had_full_at fixed history full (inl came) = inl came
-had_full_at fixed history full (inr plain) = inr (omega (arith, full, begun_stays history (fresh fixed.rules) plain))
+had_full_at fixed history full (inr plain) = inr (omega (arith, full, begun_stays history (fresh_ledger fixed.rules) plain))
 
 -- where one is being built, new rules came
 had_building_at : (one : LedgersTellOneGeneration) (terms : Terms) (history : List Event) (generation : ℕ) → IsStoodFor terms history
@@ -130,11 +130,11 @@ had_building_at one terms history generation stood is (inr plain) =
 -- ---- stages
 
 -- a writer that has none is never at what is being built
-pub some_at : (fixed : Fixed) (next : Option NextRules) (history : List Event) → IsAt fixed next history Building → IsSome next
+pub some_at : (fixed : Fixed) (next : Option NextRules) (history : List Event) → IsAtStage fixed next history Building → IsSome next
 some_at fixed None history it = absurd it
 some_at fixed (Some next) history it = refl
 
-pub at_later : (fixed : Fixed) (next : Option NextRules) (xs ys : List Event) (stage : Stage) → IsPrefix xs ys → IsAt fixed next xs stage → IsAt fixed next ys stage
+pub at_later : (fixed : Fixed) (next : Option NextRules) (xs ys : List Event) (stage : Stage) → IsPrefix xs ys → IsAtStage fixed next xs stage → IsAtStage fixed next ys stage
 at_later fixed None xs ys (Waiting other) more it = absurd it
 at_later fixed None xs ys Building more it = absurd it
 at_later fixed None xs ys NoneToCome more it = tt
@@ -142,11 +142,11 @@ at_later fixed (Some next) xs ys (Waiting other) more it = it
 at_later fixed (Some next) xs ys Building more it = had_later fixed xs ys more it
 at_later fixed (Some next) xs ys NoneToCome more it = had_later fixed xs ys more it
 
-at_past : (fixed : Fixed) (next : Option NextRules) (xs ys : List Event) → IsPrefix xs ys → IsAt fixed next xs Building → IsAt fixed next ys NoneToCome
+at_past : (fixed : Fixed) (next : Option NextRules) (xs ys : List Event) → IsPrefix xs ys → IsAtStage fixed next xs Building → IsAtStage fixed next ys NoneToCome
 at_past fixed None xs ys more it = absurd it
 at_past fixed (Some next) xs ys more it = had_later fixed xs ys more it
 
-pub at_first : (fixed : Fixed) (next : Option NextRules) (history : List Event) → IsAt fixed next history (stage_for next)
+pub at_first : (fixed : Fixed) (next : Option NextRules) (history : List Event) → IsAtStage fixed next history (stage_for next)
 at_first fixed None history = tt
 at_first fixed (Some next) history = refl
 
@@ -154,20 +154,20 @@ pub under_first : (terms : Terms) (next : Option NextRules) → AreNext terms ne
 under_first terms None it = tt
 under_first terms (Some next) it = it
 
-due_at : (fixed : Fixed) (given : Option NextRules) (history : List Event) (next : NextRules) → IsAt fixed given history (Waiting next) → Some next ≡ given
+due_at : (fixed : Fixed) (given : Option NextRules) (history : List Event) (next : NextRules) → IsAtStage fixed given history (Waiting next) → Some next ≡ given
 due_at fixed None history next it = absurd it
 due_at fixed (Some other) history next it = ap (λ (n : NextRules). Some n) it
 
 -- what is due is what the writer was given
-pub due_is : (fixed : Fixed) (given : Option NextRules) (history : List Event) (stage : Stage) (next : NextRules) → stage ≡ Waiting next → IsAt fixed given history stage → Some next ≡ given
-due_is fixed given history stage next same it = due_at fixed given history next (subst (λ (s : Stage). IsAt fixed given history s) same it)
+pub due_is : (fixed : Fixed) (given : Option NextRules) (history : List Event) (stage : Stage) (next : NextRules) → stage ≡ Waiting next → IsAtStage fixed given history stage → Some next ≡ given
+due_is fixed given history stage next same it = due_at fixed given history next (subst (λ (s : Stage). IsAtStage fixed given history s) same it)
 
 pub under_due : (terms : Terms) (stage : Stage) (next : NextRules) → stage ≡ Waiting next → IsUnder terms stage → terms.next ≡ Some next.rules
 under_due terms stage next same it = subst (λ (s : Stage). IsUnder terms s) same it
 
 -- nothing is due where nothing that waits is
 pub none_is_due : (fixed : Fixed) (given : Option NextRules) (history : List Event) (stage : Stage) (committed : ℕ) → committed ≡ committed_of (ledger_of fixed.rules history)
-    → IsNotDue committed stage → IsAt fixed given history stage → NoneIsDue fixed given history
+    → IsNotDue committed stage → IsAtStage fixed given history stage → NoneIsDue fixed given history
 none_is_due fixed None history stage committed is waits it = tt
 none_is_due fixed (Some next) history (Waiting other) committed is waits it = λ due.
     let after : other.after ≡ next.after = ap (λ (n : NextRules). n.after) it in
@@ -260,11 +260,11 @@ module _ {d : Ghosts SharedStore Event Terms} (fixed : Fixed) (batch : ℕ) (bef
   goes_on_deployed next (Err (deploying.GenerationFull last)) it = it
   goes_on_deployed next (Err deploying.Memory) it = record { fed = []; first = prefix_self []; written = it; ends = tt }
 
-  module _ (next : Option NextRules) (at : IsAt fixed next (seen_by before) Building) where
-    stays_at : HasWritten next batch [] before after → HasWritten next batch [] before after × IsAt fixed next (seen_by after) Building
+  module _ (next : Option NextRules) (at : IsAtStage fixed next (seen_by before) Building) where
+    stays_at : HasWritten next batch [] before after → HasWritten next batch [] before after × IsAtStage fixed next (seen_by after) Building
     stays_at it = (it, at_later fixed next (seen_by before) (seen_by after) Building it.worked.saw at)
 
-    passes_by : HasWritten next batch [] before after → HasWritten next batch [] before after × IsAt fixed next (seen_by after) NoneToCome
+    passes_by : HasWritten next batch [] before after → HasWritten next batch [] before after × IsAtStage fixed next (seen_by after) NoneToCome
     passes_by it = (it, at_past fixed next (seen_by before) (seen_by after) it.worked.saw at)
 
     goes_to : (one out : Stage × Pace) → one ≡ out → GoesOn fixed next batch before after one.0 one.1 → GoesOn fixed next batch before after out.0 out.1

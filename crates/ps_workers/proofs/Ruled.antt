@@ -5,7 +5,7 @@ use Rattle.std.specs.List.{AllByRecursion}
 use Rattle.ps_store.specs.declared.events.Event.{Event}
 use Rattle.ps_store.specs.declared.events.Event.TheVariants.{Feed, Close, Write, Commit, Compact, WriteCheckpoint, Deploy, Build, Switch, Abandon}
 use Rattle.ps_store.specs.Generations.{Coming, with_change, queue_in}
-use Rattle.ps_store.specs.Ledgers.{Ledger, fresh, unwritten, write_next, build_with, build_next, switch_to, drop_coming, ledger_after}
+use Rattle.ps_store.specs.Ledgers.{Ledger, fresh_ledger, unwritten, write_next, build_with, build_next, switch_to, drop_coming, ledger_after}
 use Rattle.ps_store.specs.Originals.{Timed}
 use Rattle.ps_workers.specs.declared.shared.Terms.{Terms}
 use Rattle.ps_workers.specs.SharedLaws.{HasRulesOf, SharedStoresHaveRules}
@@ -54,4 +54,4 @@ module _ (terms : Terms) where
   has_rules (Abandon ∷ events) l h only = has_rules events (ledger_after l Abandon) (drop_one l.building l h) only.1
 
 pub shared_have_rules : SharedStoresHaveRules
-shared_have_rules terms history stood = has_rules terms history (fresh terms.fixed.rules) (record { force = inl refl; coming = tt }) stood.1.deploys
+shared_have_rules terms history stood = has_rules terms history (fresh_ledger terms.fixed.rules) (record { force = inl refl; coming = tt }) stood.1.deploys

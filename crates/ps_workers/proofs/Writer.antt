@@ -17,7 +17,7 @@ use Rattle.ps_store.specs.declared.stores.Wrote.{Wrote}
 use Rattle.ps_store.specs.Ledgers.{ledger_of, unwritten}
 use Rattle.ps_store.specs.LongestRuns.{RunsAreLongest}
 use Rattle.ps_store.specs.Readings.{committed_of}
-use Rattle.ps_store.specs.Stores.{IsRefused}
+use Rattle.ps_store.specs.Stores.{WriteIsRefused}
 use Rattle.ps_workers.specs.declared.ends.WorkEnd.{WorkEnd}
 use Rattle.ps_workers.specs.declared.ends.WorkEnd.TheVariants as ends
 use Rattle.ps_workers.specs.declared.looks.Look.{Look}
@@ -29,7 +29,7 @@ use Rattle.ps_workers.specs.declared.stages.Pace.TheVariants.{On, Rest, Over}
 use Rattle.ps_workers.specs.declared.stages.Stage.{Stage}
 use Rattle.ps_workers.specs.Gains.{LooksAt, AddsTo, FeedsIn, WritesIn}
 use Rattle.ps_workers.specs.Looks.{LooksIn}
-use Rattle.ps_workers.specs.Renewing.{IsAt, IsNotDue, pace_for, GoesOn}
+use Rattle.ps_workers.specs.Renewing.{IsAtStage, IsNotDue, pace_for, GoesOn}
 use Rattle.ps_workers.specs.Work.{HasWritten, EndsWriting, FeedsAndWrites, IsStoreDrained}
 use Rattle.ps_workers.specs.Writing.{FeedsOne, CommitsOrLooks, CommitsReached, WritesNext, end_for, past_write}
 use Rattle.ps_workers.proofs.Drained.{drained_by}
@@ -115,11 +115,11 @@ module _ {d : Ghosts SharedStore Event Terms} (fixed : Fixed) (next : Option Nex
       let within = (longest fixed.limits l (take batch (unwritten l))).within in
       written_adding next batch history (Write wrote.changes) before after (omega (arith, it.2, within, length-take batch (unwritten l))) it.0
   writes_next longest history batch before after (Err writing.NothingToWrite) it =
-      (written_looking next batch history before after it.0, subst (λ (h : List Event). IsRefused fixed.limits (ledger_of fixed.rules h) writing.NothingToWrite) (sym it.0.seen) it.1)
+      (written_looking next batch history before after it.0, subst (λ (h : List Event). WriteIsRefused fixed.limits (ledger_of fixed.rules h) writing.NothingToWrite) (sym it.0.seen) it.1)
   writes_next longest history batch before after (Err (writing.TooWide table id count)) it =
-      (written_looking next batch history before after it.0, subst (λ (h : List Event). IsRefused fixed.limits (ledger_of fixed.rules h) (writing.TooWide table id count)) (sym it.0.seen) it.1)
+      (written_looking next batch history before after it.0, subst (λ (h : List Event). WriteIsRefused fixed.limits (ledger_of fixed.rules h) (writing.TooWide table id count)) (sym it.0.seen) it.1)
   writes_next longest history batch before after (Err (writing.OpsFull last)) it =
-      (written_looking next batch history before after it.0, subst (λ (h : List Event). IsRefused fixed.limits (ledger_of fixed.rules h) (writing.OpsFull last)) (sym it.0.seen) it.1)
+      (written_looking next batch history before after it.0, subst (λ (h : List Event). WriteIsRefused fixed.limits (ledger_of fixed.rules h) (writing.OpsFull last)) (sym it.0.seen) it.1)
   writes_next longest history batch before after (Err writing.Memory) it = written_looking next batch history before after it.0
 
   -- it was written, or not
@@ -166,14 +166,14 @@ module _ {d : Ghosts SharedStore Event Terms} (fixed : Fixed) (next : Option Nex
   goes_from batch before between after stage (Over end) one it = after_feeding [] batch before between after end one it
 
   -- nothing else is done in it
-  pub goes_so : (batch : ℕ) (before after : Seat SharedStore Event Terms d) (stage : Stage) (wrote : Bool) → HasWritten next batch [] before after → IsAt fixed next (seen_by before) stage
+  pub goes_so : (batch : ℕ) (before after : Seat SharedStore Event Terms d) (stage : Stage) (wrote : Bool) → HasWritten next batch [] before after → IsAtStage fixed next (seen_by before) stage
       → GoesOn fixed next batch before after stage (pace_for wrote)
   goes_so batch before after stage true one at = (one, at_later fixed next (seen_by before) (seen_by after) stage one.worked.saw at)
   goes_so batch before after stage false one at = (one, at_later fixed next (seen_by before) (seen_by after) stage one.worked.saw at)
 
   -- the store is drained, and nothing is due
   pub goes_drained : (batch : ℕ) (before after : Seat SharedStore Event Terms d) (stage : Stage) (committed : ℕ) → CommitsReached fixed next batch before after true committed
-      → IsNotDue committed stage → IsAt fixed next (seen_by before) stage → FeedsAndWrites fixed next [] batch before after ends.Drained
+      → IsNotDue committed stage → IsAtStage fixed next (seen_by before) stage → FeedsAndWrites fixed next [] batch before after ends.Drained
   goes_drained batch before after stage committed it waits at = record {
     fed = [];
     first = prefix_self [];

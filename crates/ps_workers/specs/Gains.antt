@@ -19,7 +19,7 @@ use Rattle.ps_store.specs.declared.stores.Wrote.{Wrote}
 use Rattle.ps_write_cp.specs.declared.faults.NumberFault.{NumberFault}
 use Rattle.ps_write_cp.specs.declared.faults.NumberFault.TheVariants as numbering
 use Rattle.ps_store.specs.Ledgers.{ledger_of, head_of, last_number}
-use Rattle.ps_store.specs.Stores.{IsRefused, next_run}
+use Rattle.ps_store.specs.Stores.{WriteIsRefused, next_run}
 use Rattle.ps_workers.specs.declared.shared.SharedStore.{SharedStore}
 use Rattle.ps_workers.specs.declared.shared.Terms.{Terms}
 
@@ -52,7 +52,7 @@ module _ {d : Ghosts SharedStore Event Terms} (fixed : Fixed) (history : List Ev
   WritesIn limit before after (Ok wrote) =
       AddsTo history (Write wrote.changes) before after × (1 ≤ wrote.changes) × (wrote.changes ≡ (next_run fixed history limit).count)
       × (wrote.last_op.0 ≡ (ledger_of fixed.rules (history ++ Write wrote.changes ∷ [])).last) × ((ledger_of fixed.rules history).last + wrote.ops ≡ wrote.last_op.0)
-  WritesIn limit before after (Err fault) = LooksAt history before after × IsRefused fixed.limits (ledger_of fixed.rules history) fault
+  WritesIn limit before after (Err fault) = LooksAt history before after × WriteIsRefused fixed.limits (ledger_of fixed.rules history) fault
 
   -- what was reached is the checkpoint, or was before
   abbrev pub CommitsIn : Seat SharedStore Event Terms d → Seat SharedStore Event Terms d → Result Checkpoint NothingToCommit → Type 0

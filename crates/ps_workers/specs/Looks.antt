@@ -11,7 +11,7 @@ use Rattle.ps_store.specs.declared.events.Event.{Event}
 use Rattle.ps_store.specs.declared.readings.TakeFault.{TakeFault}
 use Rattle.ps_store.specs.declared.totals.Totals.{Totals}
 use Rattle.ps_store.specs.Ledgers.{Ledger, ledger_of, head_of}
-use Rattle.ps_store.specs.Readings.{Takes, batch_of, log_length_of, building_of, committed_of}
+use Rattle.ps_store.specs.Readings.{TakesCheckpoint, batch_of, log_length_of, building_of, committed_of}
 use Rattle.ps_store.specs.Totals.{totals_of, bucket_names_of}
 use Rattle.ps_workers.specs.declared.looks.Look.{Look}
 use Rattle.ps_workers.specs.declared.shared.Terms.{Terms}
@@ -37,7 +37,7 @@ module _ {V : Type 0} {d : Ghosts V Event Terms} (terms : Terms) (history : List
   -- an asker's checkpoint was taken, or there are too many buckets
   pub record TakesIn (asker : Asker) (before after : Seat V Event Terms d) (look : Look) (result : Result Taken TakeFault) : Type 0 where
     pub looks : LooksIn before after look
-    pub takes : Takes terms.fixed history asker result
+    pub takes : TakesCheckpoint terms.fixed history asker result
 
   -- a batch of a bucket was read
   pub record ReadsIn (bucket : List ℕ) (low high : OpId) (before after : Seat V Event Terms d) (look : Look) (result : Result Batch Memory) : Type 0 where

@@ -45,13 +45,13 @@ stage_for None = NoneToCome
 stage_for (Some next) = Waiting next
 
 -- how far one is that has next rules, if any: they wait, or new rules came, or none can
-abbrev pub IsAt : Fixed → Option NextRules → List Event → Stage → Type 0
-IsAt fixed None history (Waiting other) = ⊥
-IsAt fixed None history Building = ⊥
-IsAt fixed None history NoneToCome = Unit {0}
-IsAt fixed (Some next) history (Waiting other) = other ≡ next
-IsAt fixed (Some next) history Building = HadNewRules fixed history
-IsAt fixed (Some next) history NoneToCome = HadNewRules fixed history
+abbrev pub IsAtStage : Fixed → Option NextRules → List Event → Stage → Type 0
+IsAtStage fixed None history (Waiting other) = ⊥
+IsAtStage fixed None history Building = ⊥
+IsAtStage fixed None history NoneToCome = Unit {0}
+IsAtStage fixed (Some next) history (Waiting other) = other ≡ next
+IsAtStage fixed (Some next) history Building = HadNewRules fixed history
+IsAtStage fixed (Some next) history NoneToCome = HadNewRules fixed history
 
 -- what waits is not due when so many transactions are committed
 abbrev pub IsNotDue : ℕ → Stage → Type 0
@@ -114,6 +114,6 @@ module _ {d : Ghosts SharedStore Event Terms} (fixed : Fixed) where
 
   -- the writer goes on, and how far it is; or why it ends
   abbrev pub GoesOn : Option NextRules → ℕ → Seat SharedStore Event Terms d → Seat SharedStore Event Terms d → Stage → Pace → Type 0
-  GoesOn next batch before after stage On = HasWritten next batch [] before after × IsAt fixed next (seen_by after) stage
-  GoesOn next batch before after stage Rest = HasWritten next batch [] before after × IsAt fixed next (seen_by after) stage
+  GoesOn next batch before after stage On = HasWritten next batch [] before after × IsAtStage fixed next (seen_by after) stage
+  GoesOn next batch before after stage Rest = HasWritten next batch [] before after × IsAtStage fixed next (seen_by after) stage
   GoesOn next batch before after stage (Over end) = FeedsAndWrites fixed next [] batch before after end

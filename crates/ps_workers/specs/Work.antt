@@ -19,7 +19,7 @@ use Rattle.ps_store.specs.Histories.{compacts, has_deploy}
 use Rattle.ps_store.specs.LedgerLaws.{fed_in, moves_checkpoint}
 use Rattle.ps_store.specs.Ledgers.{Ledger, ledger_of, head_of, unwritten}
 use Rattle.ps_store.specs.Readings.{committed_of}
-use Rattle.ps_store.specs.Stores.{IsRefused}
+use Rattle.ps_store.specs.Stores.{WriteIsRefused}
 use Rattle.ps_store.specs.Totals.{bucket_names_of}
 use Rattle.ps_workers.specs.declared.ends.WorkEnd.{WorkEnd}
 use Rattle.ps_workers.specs.declared.ends.WorkEnd.TheVariants.{Drained, Stopped, TooWide, OpsFull, Memory}
@@ -97,7 +97,7 @@ pub record IsStopped (l : Ledger) (given fed : List Transaction) : Type 0 where
 pub record IsTooWide (fixed : Fixed) (l : Ledger) (count : ℕ) : Type 0 where
   pub table : List ℕ
   pub id : List ℕ
-  pub refused : IsRefused fixed.limits l (writing.TooWide table id count)
+  pub refused : WriteIsRefused fixed.limits l (writing.TooWide table id count)
 
 -- so many that the queue's next change cannot be taken
 pub record IsTooWideToTake (fixed : Fixed) (l : Ledger) (count : ℕ) : Type 0 where
@@ -112,7 +112,7 @@ IsWideFor fixed next l count = IsTooWide fixed l count ⊎ (IsSome next × IsToo
 -- the next change needs more ids than are left; where there are next rules, perhaps the queue's does, or a Switch
 abbrev pub IsFullFor : Fixed → Option NextRules → Ledger → OpId → Type 0
 IsFullFor fixed next l last =
-    IsRefused fixed.limits l (writing.OpsFull last)
+    WriteIsRefused fixed.limits l (writing.OpsFull last)
     ⊎ (IsSome next × (IsUnbuilt fixed.limits l (building.OpsFull last) ⊎ IsUnswitched fixed.limits l (switching.OpsFull last)))
 
 -- new rules came, or none can: the first generation has the greatest number

@@ -14,7 +14,7 @@ use Rattle.ps_store.specs.declared.fixed.Fixed.{Fixed}
 use Rattle.ps_store.specs.declared.stores.Wrote.{Wrote}
 use Rattle.ps_store.specs.Ledgers.{ledger_of}
 use Rattle.ps_store.specs.Readings.{committed_of}
-use Rattle.ps_store.specs.Stores.{IsRefused}
+use Rattle.ps_store.specs.Stores.{WriteIsRefused}
 use Rattle.ps_workers.specs.declared.ends.WorkEnd.{WorkEnd}
 use Rattle.ps_workers.specs.declared.ends.WorkEnd.TheVariants as ends
 use Rattle.ps_workers.specs.declared.looks.Look.{Look}
@@ -65,7 +65,7 @@ module _ {d : Ghosts SharedStore Event Terms} (fixed : Fixed) where
   abbrev pub WritesNext : Option NextRules → ℕ → Seat SharedStore Event Terms d → Seat SharedStore Event Terms d → Result Wrote WriteFault → Type 0
   WritesNext next batch before after (Ok wrote) = HasWritten next batch [] before after
   WritesNext next batch before after (Err Memory) = HasWritten next batch [] before after
-  WritesNext next batch before after (Err fault) = HasWritten next batch [] before after × IsRefused fixed.limits (ledger_of fixed.rules (seen_by after)) fault
+  WritesNext next batch before after (Err fault) = HasWritten next batch [] before after × WriteIsRefused fixed.limits (ledger_of fixed.rules (seen_by after)) fault
 
 module _ {d : Ghosts SharedStore Event Terms} (terms : Terms) where
   -- what was reached is the checkpoint, and so many transactions are committed; or it was before, and the store was looked at

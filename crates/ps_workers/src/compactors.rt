@@ -17,7 +17,7 @@ use crate::workplaces::{Passes, Workplace};
 use ps_data::{Memory, Text};
 use ps_doors::Bell;
 use ps_lock::{Seat, StoreLock};
-use ps_store::{CompactFault, totals_tell_histories};
+use ps_store::CompactFault;
 use std::alloc::Global;
 use std::sync::Wait;
 
@@ -196,7 +196,7 @@ fn compact_each<R: Wait, G: Gate>(
     ensures worked { HasWorked IsOfCompactor seat result.0 }
     ensures each { OnOk result.1 (has_deploy (seen_by result.0) ≡ false → HasCompacted (terms_of place.now.lock.now) (seen_by seat) (seen_by result.0) names.now) }
 {
-    totals_tell_histories();
+    ps_store::laws::totals_tell_histories();
     let mut here = seat;
     'buckets: for name in names {
         passes.pass();

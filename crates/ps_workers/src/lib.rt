@@ -7,7 +7,7 @@ mod compactors;
 mod ends;
 mod gates;
 mod kept;
-mod laws;
+pub mod laws;
 mod levels;
 mod looks;
 mod opening;
@@ -24,7 +24,6 @@ pub use compactions::compact_in_turn;
 pub use compactors::compact_all;
 pub use ends::WorkEnd;
 pub use gates::{Gate, OpenGate};
-pub use laws::shared_stores_have_rules;
 pub use looks::{
     Look, lengths_in_turn, look_in_turn, names_in_turn, read_in_turn, take_in_turn, totals_in_turn,
 };

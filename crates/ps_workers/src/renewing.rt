@@ -5,7 +5,7 @@ ghost use Rattle.ps_lock.specs.Words.{IsSeatOf, seen_by};
 ghost use Rattle.ps_workers.specs.declared.shared.Terms.{Terms as TermsSeen};
 ghost use Rattle.ps_workers.specs.declared.stages.NextRules.{NextRules as NextRulesSeen};
 ghost use Rattle.ps_workers.specs.declared.stages.Stage.TheVariants as stages;
-ghost use Rattle.ps_workers.specs.Renewing.{IsUnder, IsAt, WhenDue, stage_for, pace_for, past_deploy, past_build, past_switch, DeploysNext, BuildsNext, SwitchesNext, GoesOn};
+ghost use Rattle.ps_workers.specs.Renewing.{IsUnder, IsAtStage, WhenDue, stage_for, pace_for, past_deploy, past_build, past_switch, DeploysNext, BuildsNext, SwitchesNext, GoesOn};
 ghost use Rattle.ps_workers.specs.Sharing.{terms_of, fixed_of};
 
 use crate::ends::WorkEnd;
@@ -16,9 +16,7 @@ use crate::stages::{NextRules, Pace, Stage};
 use crate::workplaces::{Passes, Workplace};
 use ps_doors::Bell;
 use ps_lock::Seat;
-use ps_store::{
-    BuildFault, Built, Checkpoint, DeployFault, SwitchFault, ledgers_tell_ops, runs_are_the_longest,
-};
+use ps_store::{BuildFault, Built, Checkpoint, DeployFault, SwitchFault};
 use std::sync::Wait;
 
 /// How a writer begins that has next rules, or none.
@@ -67,7 +65,7 @@ fn deploy_next<R: Wait, G: Gate>(
     ensures lock { IsSeatOf place.now.lock.now result.0 }
     ensures deploys { (batch : ℕ) → DeploysNext (fixed_of place.now.lock.now) next batch seat result.0 result.1 }
 {
-    ledgers_tell_ops();
+    ps_store::laws::ledgers_tell_ops();
     passes.pass();
     let NextRules { rules, after: _ } = next;
     deploy_in_turn(place.rt, place.alloc, place.lock, seat, rules)
@@ -115,7 +113,7 @@ fn build_next<R: Wait, G: Gate>(
     ensures lock { IsSeatOf place.now.lock.now result.0 }
     ensures builds { (next : Option NextRulesSeen) → IsSome next → BuildsNext (fixed_of place.now.lock.now) next batch seat result.0 result.1 }
 {
-    runs_are_the_longest();
+    ps_store::laws::runs_are_the_longest();
     passes.pass();
     build_in_turn(place.rt, place.alloc, place.lock, seat, batch)
 }
@@ -188,7 +186,7 @@ fn switch_on<R: Wait, G: Gate, B: Bell>(
     requires { IsSeatOf place.now.lock.now seat }
     ensures lock { IsSeatOf place.now.lock.now result.0 }
     ensures under { (terms : TermsSeen) → IsUnder terms result.1 }
-    ensures goes_on { (next : Option NextRulesSeen) (batch : ℕ) → IsAt (fixed_of place.now.lock.now) next (seen_by seat) stages.Building
+    ensures goes_on { (next : Option NextRulesSeen) (batch : ℕ) → IsAtStage (fixed_of place.now.lock.now) next (seen_by seat) stages.Building
         → GoesOn (fixed_of place.now.lock.now) next batch seat result.0 result.1 result.2 }
 {
     let (seat, switched) = switch_next(place, passes, seat, bell);
@@ -210,7 +208,7 @@ pub(crate) fn build_on<R: Wait, G: Gate, B: Bell>(
     requires limit { batch ≤ 1000000 }
     ensures lock { IsSeatOf place.now.lock.now result.0 }
     ensures under { (terms : TermsSeen) → IsUnder terms result.1 }
-    ensures goes_on { (next : Option NextRulesSeen) → IsAt (fixed_of place.now.lock.now) next (seen_by seat) stages.Building
+    ensures goes_on { (next : Option NextRulesSeen) → IsAtStage (fixed_of place.now.lock.now) next (seen_by seat) stages.Building
         → GoesOn (fixed_of place.now.lock.now) next batch seat result.0 result.1 result.2 }
 {
     let (seat, built) = build_next(place, passes, seat, batch);

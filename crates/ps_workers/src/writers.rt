@@ -7,7 +7,7 @@ ghost use Rattle.ps_rows.specs.declared.changes.Transaction.{Transaction as Tran
 ghost use Rattle.ps_store.specs.declared.events.Event.{Event as EventSeen};
 ghost use Rattle.ps_store.specs.Limits.{greatest};
 ghost use Rattle.ps_workers.specs.declared.stages.NextRules.{NextRules as NextRulesSeen};
-ghost use Rattle.ps_workers.specs.Renewing.{AreNext, IsUnder, IsAt, GoesOn};
+ghost use Rattle.ps_workers.specs.Renewing.{AreNext, IsUnder, IsAtStage, GoesOn};
 ghost use Rattle.ps_workers.specs.Sharing.{terms_of, fixed_of};
 ghost use Rattle.ps_workers.specs.Work.{FeedsAndWrites};
 ghost use Rattle.ps_workers.specs.Writing.{CommitsOrLooks, CommitsReached, FeedsOne, FeedsAll, WritesNext, end_for, past_write};
@@ -23,7 +23,7 @@ use crate::workplaces::{Passes, Workplace};
 use ps_doors::Bell;
 use ps_lock::{Seat, StoreLock};
 use ps_rows::Transaction;
-use ps_store::{Event, FeedFault, WriteFault, Wrote, runs_are_the_longest};
+use ps_store::{Event, FeedFault, WriteFault, Wrote};
 use std::alloc::Global;
 use std::sync::Wait;
 
@@ -87,7 +87,7 @@ fn write_next<R: Wait, G: Gate>(
     ensures lock { IsSeatOf place.now.lock.now result.0 }
     ensures writes { (next : Option NextRulesSeen) → WritesNext (fixed_of place.now.lock.now) next batch seat result.0 result.1 }
 {
-    runs_are_the_longest();
+    ps_store::laws::runs_are_the_longest();
     passes.pass();
     write_in_turn(place.rt, place.alloc, place.lock, seat, batch)
 }
@@ -120,7 +120,7 @@ fn step<R: Wait, G: Gate, B: Bell>(
     requires limit { batch ≤ 1000000 }
     ensures lock { IsSeatOf place.now.lock.now result.0 }
     ensures under { IsUnder (terms_of place.now.lock.now) result.1 }
-    ensures goes_on { (next : Option NextRulesSeen) → IsAt (fixed_of place.now.lock.now) next (seen_by seat) stage
+    ensures goes_on { (next : Option NextRulesSeen) → IsAtStage (fixed_of place.now.lock.now) next (seen_by seat) stage
         → GoesOn (fixed_of place.now.lock.now) next batch seat result.0 result.1 result.2 }
 {
     let (seat, drained, committed) = commit_reached(place, passes, seat, bell);

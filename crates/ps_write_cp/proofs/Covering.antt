@@ -2,7 +2,7 @@
 use Rattle.std.proofs.Common.{◌≡◌, ℕ, zero, suc, ◌+◌, ◌-◌, ◌<◌, ◌≤◌, max, leb, leb-true, leb-false, le-leb, Bool, true, false, ◌⊎◌, inl, inr, List, [], ◌∷◌, length, get_or, fold, Some, None, refl, sym, ap, ◌∙◌, subst, arith}
 use Rattle.std.specs.Prelude.{if◌then◌else◌, slice_get}
 use Rattle.ps_data.specs.declared.ids.Position.{Position}
-use Rattle.ps_write_cp.specs.Numbers.{reached_from, greatest, covered}
+use Rattle.ps_write_cp.specs.Numbers.{reached_from, greatest_number, covered}
 use Rattle.ps_write_cp.specs.Laws.{HasHead, IsGreatestReached, CoveredIsGreatest, CoversAllBefore}
 
 -- ---- the numbers of heads of which the first ones are reached
@@ -40,7 +40,7 @@ module _ (position : ℕ) where
 
 pub none_covered : (position : ℕ) (heads : List Position) → ((j : ℕ) (d : Position) → 0 ≤ j → j < length heads → leb (get_or heads j d).0 position ≡ false) → None ≡ covered position heads
 unfolding counted Below Above
-none_covered position heads above = sym (ap greatest (reached_are position heads 1 0 (omega arith) (λ j d l m. absurd (omega arith)) above))
+none_covered position heads above = sym (ap greatest_number (reached_are position heads 1 0 (omega arith) (λ j d l m. absurd (omega arith)) above))
 
 pub count_covered : (position : ℕ) (heads : List Position) (count : ℕ) → 0 < count → count ≤ length heads
     → ((j : ℕ) (d : Position) → 0 ≤ j → j < count → leb (get_or heads j d).0 position ≡ true)
@@ -49,7 +49,7 @@ unfolding counted Below Above
 count_covered position heads zero more within below above = absurd (omega arith)
 count_covered position heads (suc count) more within below above =
     let f : 1 + count ≡ suc count = omega arith in
-    sym (ap greatest (reached_are position heads 1 (suc count) within below above) ∙ ap Some (greatest_counted 1 count ∙ f))
+    sym (ap greatest_number (reached_are position heads 1 (suc count) within below above) ∙ ap Some (greatest_counted 1 count ∙ f))
 
 -- ---- the greatest of the numbers whose heads are reached
 
@@ -145,7 +145,7 @@ covered_is_greatest heads position = go (reached_from 1 position heads) refl
     past number head e has true t = absurd (subst (IsIn number) e (number_in number head has (leb-true head.0 position t)))
     past number head e has false t = leb-false head.0 position t
 
-    go : (numbers : List ℕ) → reached_from 1 position heads ≡ numbers → IsGreatestReached heads position (greatest numbers)
+    go : (numbers : List ℕ) → reached_from 1 position heads ≡ numbers → IsGreatestReached heads position (greatest_number numbers)
     go [] e = λ number head has. past number head e has (leb head.0 position) refl
     go (first ∷ numbers) e =
         let r : Reached position 1 heads (fold max first numbers) = in_reached position heads 1 (fold max first numbers) (subst (IsIn (fold max first numbers)) (sym e) (greatest_in first numbers)) in

@@ -15,7 +15,7 @@ abbrev pub Clients : Type 0
 Clients = List (List ℕ × List Position)
 
 -- the greatest number that may be given, the last head, 0 where none was given, and the heads of each user's clients
-pub record Kept : Type 0 where
+pub record KeptNumbers : Type 0 where
   pub top : ℕ
   pub head : ℕ
   pub users : List (List ℕ × Clients)
@@ -30,34 +30,34 @@ abbrev pub heads_under : List (List ℕ × Clients) → List ℕ → List ℕ �
 heads_under users user client = heads_among (clients_among users user) client
 
 -- the heads of a user's client
-abbrev pub heads_at : Kept → List ℕ → List ℕ → List Position
+abbrev pub heads_at : KeptNumbers → List ℕ → List ℕ → List Position
 heads_at kept user client = heads_under kept.users user client
 
 -- heads never fall
-abbrev pub Rises : List Position → Type 0
-Rises heads = IsNonDecreasingBy (λ (head : Position). head.0) heads
+abbrev pub HeadsNeverFall : List Position → Type 0
+HeadsNeverFall heads = IsNonDecreasingBy (λ (head : Position). head.0) heads
 
 -- none is past a position
 abbrev pub AreUpTo : ℕ → List Position → Type 0
 AreUpTo position heads = All (λ (head : Position). head.0 ≤ position) heads
 
 -- of each client heads never fall, none is past the last head, and numbers are at most the greatest
-pub record IsSound (kept : Kept) : Type 0 where
-  pub rises : (user client : List ℕ) → Rises (heads_at kept user client)
+pub record HasSoundHeads (kept : KeptNumbers) : Type 0 where
+  pub rises : (user client : List ℕ) → HeadsNeverFall (heads_at kept user client)
   pub upto : (user client : List ℕ) → AreUpTo kept.head (heads_at kept user client)
   pub within : (user client : List ℕ) → length (heads_at kept user client) ≤ kept.top
 
 -- each client has the heads of these write checkpoints
-abbrev pub StandsFor : Kept → List Made → Type 0
+abbrev pub StandsFor : KeptNumbers → List Made → Type 0
 StandsFor kept history = (user client : List ℕ) → heads_at kept user client ≡ heads_of user client history
 
 -- the last head and the heads of all clients are the same
-pub record HaveSame (old new : Kept) : Type 0 where
+pub record HaveSameHeads (old new : KeptNumbers) : Type 0 where
   pub last : new.head ≡ old.head
   pub heads : (user client : List ℕ) → heads_at new user client ≡ heads_at old user client
 
 -- what is answered after the last number: the next one, or that it would be past the greatest
-abbrev pub Answers : ℕ → ℕ → Result ℕ NumberFault → Type 0
-Answers top last (Ok number) = (number ≡ last + 1) × (last < top)
-Answers top last (Err (NumberFull full)) = (full ≡ last) × (last ≡ top)
-Answers top last (Err Memory) = last < top
+abbrev pub AnswersNumber : ℕ → ℕ → Result ℕ NumberFault → Type 0
+AnswersNumber top last (Ok number) = (number ≡ last + 1) × (last < top)
+AnswersNumber top last (Err (NumberFull full)) = (full ≡ last) × (last ≡ top)
+AnswersNumber top last (Err Memory) = last < top

@@ -2,7 +2,7 @@
 use Rattle.std.specs.Prelude.{◌≡◌, ℕ, ◌-◌, ◌≤◌, ◌<◌, List, Option, Some, None, slice_get}
 use Rattle.ps_data.specs.declared.ids.Position.{Position}
 use Rattle.ps_write_cp.specs.Numbers.{covered}
-use Rattle.ps_write_cp.specs.Kept.{Rises}
+use Rattle.ps_write_cp.specs.Kept.{HeadsNeverFall}
 
 -- the number is given and has the head: numbers count from 1
 pub record HasHead (heads : List Position) (number : ℕ) (head : Position) : Type 0 where
@@ -23,4 +23,4 @@ CoveredIsGreatest = (heads : List Position) (position : ℕ) → IsGreatestReach
 -- where heads never fall, the head of each number up to the covered one is at most the position
 abbrev pub CoversAllBefore : Type 0
 CoversAllBefore = (heads : List Position) (position covers number : ℕ) (head : Position)
-    → Rises heads → covered position heads ≡ Some covers → number ≤ covers → HasHead heads number head → head.0 ≤ position
+    → HeadsNeverFall heads → covered position heads ≡ Some covers → number ≤ covers → HasHead heads number head → head.0 ≤ position

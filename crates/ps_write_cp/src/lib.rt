@@ -4,9 +4,8 @@
 
 mod clients;
 mod faults;
-mod laws;
+pub mod laws;
 mod numbers;
 
 pub use faults::NumberFault;
-pub use laws::{covered_is_the_greatest, covers_all_before};
 pub use numbers::WriteCheckpoints;

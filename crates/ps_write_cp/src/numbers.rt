@@ -2,7 +2,7 @@
 
 ghost use Rattle.std.specs.Prelude.{◌≡◌, ℕ, ◌≤◌, List, [], ◌∷◌, ◌++◌, ◌&&◌, length, bytes_eq, if◌then◌else◌, OnOk, OnErr};
 ghost use Rattle.ps_write_cp.specs.Numbers.{Made, covered as covered_number};
-ghost use Rattle.ps_write_cp.specs.Kept.{heads_under, heads_at, Rises, StandsFor, HaveSame, Answers};
+ghost use Rattle.ps_write_cp.specs.Kept.{heads_under, heads_at, HeadsNeverFall, StandsFor, HaveSameHeads, AnswersNumber};
 
 use crate::clients::ClientHeads;
 use crate::faults::NumberFault;
@@ -21,13 +21,13 @@ pub struct WriteCheckpoints {
 }
 
 impl Model for WriteCheckpoints {
-    ghost use Rattle.ps_write_cp.specs.Kept.{Kept, IsSound};
+    ghost use Rattle.ps_write_cp.specs.Kept.{KeptNumbers, HasSoundHeads};
 
-    ghost Value = { Kept };
+    ghost Value = { KeptNumbers };
 
     ghost view = { λ numbers. record { top = numbers.top; head = numbers.head.0; users = numbers.users.entries } };
 
-    ghost invariant = { λ numbers. IsSound (record { top = numbers.top; head = numbers.head.0; users = numbers.users.entries }) };
+    ghost invariant = { λ numbers. HasSoundHeads (record { top = numbers.top; head = numbers.head.0; users = numbers.users.entries }) };
 }
 
 impl WriteCheckpoints {
@@ -55,11 +55,11 @@ impl WriteCheckpoints {
         head: Position,
     ) -> Result<u64, NumberFault>
         requires { self.old.head ≤ head.0 }
-        ensures answer { Answers self.old.top (length (heads_at self.old user.now client.now)) result }
+        ensures answer { AnswersNumber self.old.top (length (heads_at self.old user.now client.now)) result }
         ensures made { OnOk result ((history : List Made) → StandsFor self.old history
             → StandsFor self.new (history ++ (record { user = user.now; client = client.now; head = head }) ∷ [])) }
         ensures head { OnOk result (self.new.head ≡ head.0) }
-        ensures refused { OnErr result (HaveSame self.old self.new) }
+        ensures refused { OnErr result (HaveSameHeads self.old self.new) }
         ensures top { self.new.top ≡ self.old.top }
     {
         let last = heads_in(&self.users, user, client).len() as u64;
@@ -75,7 +75,7 @@ impl WriteCheckpoints {
     /// in proportion to the logarithm of how many numbers the client has.
     pub fn covered(&self, user: &Text, client: &Text, position: Position) -> Option<u64>
         ensures value { result ≡ covered_number position.0 (heads_at self.now user.now client.now) }
-        ensures rises { Rises (heads_at self.now user.now client.now) }
+        ensures rises { HeadsNeverFall (heads_at self.now user.now client.now) }
     {
         let heads = heads_in(&self.users, user, client);
         count_up_to(heads, position)
@@ -84,7 +84,7 @@ impl WriteCheckpoints {
 
 // How many of rising heads are at most a position; None where there is none.
 fn count_up_to(heads: &[Position], position: Position) -> Option<u64>
-    requires { Rises heads.now }
+    requires { HeadsNeverFall heads.now }
     ensures { result ≡ covered_number position.0 heads.now }
 {
     let count = heads.partition_point(|head| head.0 <= position.0);

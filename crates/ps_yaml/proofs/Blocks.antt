@@ -7,7 +7,7 @@ use Rattle.std.proofs.lemmas.Bool.Decides.{nat_tests}
 use Rattle.ps_yaml.specs.declared.lines.Kind.TheVariants.{Blank, Comment, Tabbed, Content}
 use Rattle.ps_yaml.specs.declared.scalars.Style.{Style}
 use Rattle.ps_yaml.specs.Lines.{Line, is_space, is_space_or_tab, spaces, kind_of, kind_behind_indent}
-use Rattle.ps_yaml.specs.Scalars.{style_of, is_blank, is_tabbed, block_indent, block_len, count_blank, unindented, joined, ended}
+use Rattle.ps_yaml.specs.Scalars.{style_of, is_blank_kind, is_tabbed, block_indent, block_len, count_blank, unindented, joined_lines, ended}
 use Rattle.ps_yaml.specs.ScalarGrammar.{IsBlockMark, from_written, BeginsNoBlock, EndsBlock, is_within, BlockText, begins_block}
 use Rattle.ps_yaml.specs.ScalarGrammar as grammar
 use Rattle.ps_yaml.proofs.Binds.{bind_ok, bind_at, chosen, decided, if_true, if_false}
@@ -132,37 +132,37 @@ kind_here : (b : ℕ) (text : List ℕ) → is_space b ≡ false → kind_of (b 
 unfolding kind_of
 kind_here b text h = ap (λ (n : ℕ). kind_behind_indent (drop n (b ∷ text))) (spaces_more b text false h)
 
-tab_blank : (all : Bool) → is_blank (if all then Blank else Tabbed) ≡ true → all ≡ true
+tab_blank : (all : Bool) → is_blank_kind (if all then Blank else Tabbed) ≡ true → all ≡ true
 tab_blank true h = refl
 tab_blank false h = cc
 
-not_blank : (comment : Bool) → is_blank (if comment then Comment else Content) ≡ true → ⊥
+not_blank : (comment : Bool) → is_blank_kind (if comment then Comment else Content) ≡ true → ⊥
 not_blank true h = cc
 not_blank false h = cc
 
-here_spaced : (b : ℕ) (text : List ℕ) → is_blank (kind_behind_indent (b ∷ text)) ≡ true → list_all is_space_or_tab (b ∷ text) ≡ true
+here_spaced : (b : ℕ) (text : List ℕ) → is_blank_kind (kind_behind_indent (b ∷ text)) ≡ true → list_all is_space_or_tab (b ∷ text) ≡ true
 here_spaced b text h =
     elim (decided (b == 9)) [
       | inl t ↦
-          let e : is_blank (if list_all is_space_or_tab text then Blank else Tabbed) ≡ true = sym (ap is_blank (if_true (b == 9) _ (if b == 35 then Comment else Content) t)) ∙ h in
+          let e : is_blank_kind (if list_all is_space_or_tab text then Blank else Tabbed) ≡ true = sym (ap is_blank_kind (if_true (b == 9) _ (if b == 35 then Comment else Content) t)) ∙ h in
           ap (λ (v : Bool). v && list_all is_space_or_tab text) (tab_is b t) ∙ tab_blank (list_all is_space_or_tab text) e
       | inr t ↦
-          absurd (not_blank (b == 35) (sym (ap is_blank (if_false (b == 9) (if list_all is_space_or_tab text then Blank else Tabbed) _ t)) ∙ h))
+          absurd (not_blank (b == 35) (sym (ap is_blank_kind (if_false (b == 9) (if list_all is_space_or_tab text then Blank else Tabbed) _ t)) ∙ h))
     ]
 
-blank_spaced : (text : List ℕ) → is_blank (kind_of text) ≡ true → list_all is_space_or_tab text ≡ true
+blank_spaced : (text : List ℕ) → is_blank_kind (kind_of text) ≡ true → list_all is_space_or_tab text ≡ true
 blank_spaced [] h = refl
 blank_spaced (b ∷ text) h =
     elim (decided (is_space b)) [
-      | inl s ↦ ap (λ (v : Bool). v && list_all is_space_or_tab text) (space_is b s) ∙ blank_spaced text (ap is_blank (sym (kind_more b text s)) ∙ h)
-      | inr s ↦ here_spaced b text (ap is_blank (sym (kind_here b text s)) ∙ h)
+      | inl s ↦ ap (λ (v : Bool). v && list_all is_space_or_tab text) (space_is b s) ∙ blank_spaced text (ap is_blank_kind (sym (kind_more b text s)) ∙ h)
+      | inr s ↦ here_spaced b text (ap is_blank_kind (sym (kind_here b text s)) ∙ h)
     ]
 
 line_drop : (depth : ℕ) (line : Line) → is_within depth line ≡ true → unindented depth line.text ≡ drop depth line.text
 line_drop depth line h =
-    elim (decided (is_blank (kind_of line.text))) [
+    elim (decided (is_blank_kind (kind_of line.text))) [
       | inl b ↦ blank_drop depth line.text (blank_spaced line.text b)
-      | inr b ↦ deep_drop depth line.text (at_most depth (spaces line.text) (or_right (is_blank (kind_of line.text)) (nat_le depth (spaces line.text)) b h))
+      | inr b ↦ deep_drop depth line.text (at_most depth (spaces line.text) (or_right (is_blank_kind (kind_of line.text)) (nat_le depth (spaces line.text)) b h))
     ]
 
 -- ---- the depth of a block
@@ -174,9 +174,9 @@ depth_at indent (line ∷ lines) = if is_tabbed (kind_of line.text) then None el
 pub indent_is : (indent : ℕ) (lines : List Line) → block_indent indent lines ≡ depth_at indent (from_written lines)
 indent_is indent [] = refl
 indent_is indent (line ∷ lines) =
-    elim (decided (is_blank (kind_of line.text))) [
-      | inl h ↦ if_true (is_blank (kind_of line.text)) _ _ h ∙ indent_is indent lines ∙ ap (depth_at indent) (sym (if_true (is_blank (kind_of line.text)) (from_written lines) (line ∷ lines) h))
-      | inr h ↦ if_false (is_blank (kind_of line.text)) _ _ h ∙ ap (depth_at indent) (sym (if_false (is_blank (kind_of line.text)) (from_written lines) (line ∷ lines) h))
+    elim (decided (is_blank_kind (kind_of line.text))) [
+      | inl h ↦ if_true (is_blank_kind (kind_of line.text)) _ _ h ∙ indent_is indent lines ∙ ap (depth_at indent) (sym (if_true (is_blank_kind (kind_of line.text)) (from_written lines) (line ∷ lines) h))
+      | inr h ↦ if_false (is_blank_kind (kind_of line.text)) _ _ h ∙ ap (depth_at indent) (sym (if_false (is_blank_kind (kind_of line.text)) (from_written lines) (line ∷ lines) h))
     ]
 
 none_found : (indent : ℕ) (lines : List Line) → depth_at indent lines ≡ None → BeginsNoBlock indent lines
@@ -233,45 +233,45 @@ first_only indent lines first others is t h =
 -- so many lines are the block's: none, or its text
 abbrev pub Walked : ℕ → ℕ → ℕ → List Line → ℕ → Type 0
 Walked indent depth joint lines zero = EndsBlock indent depth (from_written lines)
-Walked indent depth joint lines (suc n) = BlockText indent depth joint lines (joined joint depth (take (suc n) lines)) (drop (suc n) lines)
+Walked indent depth joint lines (suc n) = BlockText indent depth joint lines (joined_lines joint depth (take (suc n) lines)) (drop (suc n) lines)
 
 count_more : (n : ℕ) → count_blank (suc n) ≡ suc (suc n)
 count_more n = let h : (suc n == 0) ≡ false = grind (arith, nat_tests) in if_false (suc n == 0) _ _ h ∙ sym (one_more (suc n))
 
 joined_more : (indent depth joint : ℕ) (line : Line) (lines : List Line) (n : ℕ) → block_len indent depth lines ≡ Ok (suc n)
-    → joined joint depth (line ∷ take (suc n) lines) ≡ unindented depth line.text ++ joint ∷ joined joint depth (take (suc n) lines)
+    → joined_lines joint depth (line ∷ take (suc n) lines) ≡ unindented depth line.text ++ joint ∷ joined_lines joint depth (take (suc n) lines)
 joined_more indent depth joint line [] n e = absurd (let z = e in cc)
 joined_more indent depth joint line (next ∷ lines) n e = refl
 
 walk_next : (indent depth joint : ℕ) (line : Line) (lines : List Line) (n : ℕ) → is_within depth line ≡ true → block_len indent depth lines ≡ Ok (suc n) → Walked indent depth joint lines (suc n)
     → Walked indent depth joint (line ∷ lines) (suc (suc n))
 walk_next indent depth joint line lines n h e w =
-    let more = joined joint depth (take (suc n) lines) in
-    let text : drop depth line.text ++ joint ∷ more ≡ joined joint depth (line ∷ take (suc n) lines) =
+    let more = joined_lines joint depth (take (suc n) lines) in
+    let text : drop depth line.text ++ joint ∷ more ≡ joined_lines joint depth (line ∷ take (suc n) lines) =
     ap (λ (u : List ℕ). u ++ joint ∷ more) (sym (line_drop depth line h)) ∙ sym (joined_more indent depth joint line lines n e) in
     subst (λ (u : List ℕ). BlockText indent depth joint (line ∷ lines) u (drop (suc n) lines)) text (grammar.next line lines more (drop (suc n) lines) h w)
 
-walk_blank : (indent depth joint : ℕ) (line : Line) (lines : List Line) (n : ℕ) → is_blank (kind_of line.text) ≡ true → block_len indent depth lines ≡ Ok n → Walked indent depth joint lines n
+walk_blank : (indent depth joint : ℕ) (line : Line) (lines : List Line) (n : ℕ) → is_blank_kind (kind_of line.text) ≡ true → block_len indent depth lines ≡ Ok n → Walked indent depth joint lines n
     → Walked indent depth joint (line ∷ lines) (count_blank n)
-walk_blank indent depth joint line lines zero h e w = subst (EndsBlock indent depth) (sym (if_true (is_blank (kind_of line.text)) (from_written lines) (line ∷ lines) h)) w
+walk_blank indent depth joint line lines zero h e w = subst (EndsBlock indent depth) (sym (if_true (is_blank_kind (kind_of line.text)) (from_written lines) (line ∷ lines) h)) w
 walk_blank indent depth joint line lines (suc n) h e w =
     let within : is_within depth line ≡ true = ap (λ (v : Bool). v || nat_le depth (spaces line.text)) h in
     subst (Walked indent depth joint (line ∷ lines)) (sym (count_more n)) (walk_next indent depth joint line lines n within e w)
 
-walk_deep : (indent depth joint : ℕ) (line : Line) (lines : List Line) (n : ℕ) → is_blank (kind_of line.text) ≡ false → is_within depth line ≡ true → block_len indent depth lines ≡ Ok n → Walked indent depth joint lines n
+walk_deep : (indent depth joint : ℕ) (line : Line) (lines : List Line) (n : ℕ) → is_blank_kind (kind_of line.text) ≡ false → is_within depth line ≡ true → block_len indent depth lines ≡ Ok n → Walked indent depth joint lines n
     → Walked indent depth joint (line ∷ lines) (suc n)
 walk_deep indent depth joint line lines zero b h e w =
     subst (λ (u : List ℕ). BlockText indent depth joint (line ∷ lines) u lines) (sym (append-nil (unindented depth line.text) ∙ line_drop depth line h)) (grammar.last line lines b h w)
 walk_deep indent depth joint line lines (suc n) b h e w = walk_next indent depth joint line lines n h e w
 
-walk_end : (indent depth joint : ℕ) (line : Line) (lines : List Line) (n : ℕ) → is_blank (kind_of line.text) ≡ false → spaces line.text < depth → BeginsNoBlock indent (line ∷ lines) → 0 ≡ n → Walked indent depth joint (line ∷ lines) n
+walk_end : (indent depth joint : ℕ) (line : Line) (lines : List Line) (n : ℕ) → is_blank_kind (kind_of line.text) ≡ false → spaces line.text < depth → BeginsNoBlock indent (line ∷ lines) → 0 ≡ n → Walked indent depth joint (line ∷ lines) n
 walk_end indent depth joint line lines n b l h z =
-    subst (Walked indent depth joint (line ∷ lines)) z (subst (EndsBlock indent depth) (sym (if_false (is_blank (kind_of line.text)) (from_written lines) (line ∷ lines) b)) (l, h))
+    subst (Walked indent depth joint (line ∷ lines)) z (subst (EndsBlock indent depth) (sym (if_false (is_blank_kind (kind_of line.text)) (from_written lines) (line ∷ lines) b)) (l, h))
 
 pub walk : (indent depth joint : ℕ) (lines : List Line) (n : ℕ) → block_len indent depth lines ≡ Ok n → Walked indent depth joint lines n
 walk indent depth joint [] n e = let z : 0 ≡ n = cc in subst (Walked indent depth joint []) z tt
 walk indent depth joint (line ∷ lines) n e =
-    elim (chosen (is_blank (kind_of line.text)) _ _ (Ok n) e) [
+    elim (chosen (is_blank_kind (kind_of line.text)) _ _ (Ok n) e) [
       | inl b ↦
           let r = bind_ok (block_len indent depth lines) _ n b.1 in
           let same : count_blank r.0 ≡ n = (let z = r.2 in cc) in
@@ -294,9 +294,9 @@ walk indent depth joint (line ∷ lines) n e =
 
 -- ---- the other way
 
-end_here : (indent depth : ℕ) (line : Line) (lines : List Line) → is_blank (kind_of line.text) ≡ false → EndsBlock indent depth (line ∷ lines) → block_len indent depth (line ∷ lines) ≡ Ok 0
+end_here : (indent depth : ℕ) (line : Line) (lines : List Line) → is_blank_kind (kind_of line.text) ≡ false → EndsBlock indent depth (line ∷ lines) → block_len indent depth (line ∷ lines) ≡ Ok 0
 end_here indent depth line lines b h =
-    if_false (is_blank (kind_of line.text)) _ _ b ∙ if_false (nat_le depth (spaces line.text)) _ _ (is_more depth (spaces line.text) h.0)
+    if_false (is_blank_kind (kind_of line.text)) _ _ b ∙ if_false (nat_le depth (spaces line.text)) _ _ (is_more depth (spaces line.text) h.0)
     ∙ elim (decided (is_tabbed (kind_of line.text))) [
       | inl t ↦ if_true (is_tabbed (kind_of line.text)) _ _ t
       | inr t ↦ if_false (is_tabbed (kind_of line.text)) _ _ t ∙ if_false (nat_lt indent (spaces line.text)) _ _ (is_not_below indent (spaces line.text) (h.1 t))
@@ -305,32 +305,32 @@ end_here indent depth line lines b h =
 ends_zero : (indent depth : ℕ) (lines : List Line) → EndsBlock indent depth (from_written lines) → block_len indent depth lines ≡ Ok 0
 ends_zero indent depth [] h = refl
 ends_zero indent depth (line ∷ lines) h =
-    elim (decided (is_blank (kind_of line.text))) [
+    elim (decided (is_blank_kind (kind_of line.text))) [
       | inl b ↦
-          if_true (is_blank (kind_of line.text)) _ _ b
-          ∙ bind_at (block_len indent depth lines) _ 0 (ends_zero indent depth lines (subst (EndsBlock indent depth) (if_true (is_blank (kind_of line.text)) (from_written lines) (line ∷ lines) b) h))
-      | inr b ↦ end_here indent depth line lines b (subst (EndsBlock indent depth) (if_false (is_blank (kind_of line.text)) (from_written lines) (line ∷ lines) b) h)
+          if_true (is_blank_kind (kind_of line.text)) _ _ b
+          ∙ bind_at (block_len indent depth lines) _ 0 (ends_zero indent depth lines (subst (EndsBlock indent depth) (if_true (is_blank_kind (kind_of line.text)) (from_written lines) (line ∷ lines) b) h))
+      | inr b ↦ end_here indent depth line lines b (subst (EndsBlock indent depth) (if_false (is_blank_kind (kind_of line.text)) (from_written lines) (line ∷ lines) b) h)
     ]
 
 pub record Counted (indent depth joint : ℕ) (lines : List Line) (text : List ℕ) (after : List Line) : Type 0 where
   pub less : ℕ
   pub len : block_len indent depth lines ≡ Ok (suc less)
-  pub text_is : joined joint depth (take (suc less) lines) ≡ text
+  pub text_is : joined_lines joint depth (take (suc less) lines) ≡ text
   pub after_is : drop (suc less) lines ≡ after
 
 within_len : (indent depth : ℕ) (line : Line) (lines : List Line) (n : ℕ) → is_within depth line ≡ true → block_len indent depth lines ≡ Ok (suc n) → block_len indent depth (line ∷ lines) ≡ Ok (suc (suc n))
 within_len indent depth line lines n h e =
-    elim (decided (is_blank (kind_of line.text))) [
-      | inl b ↦ if_true (is_blank (kind_of line.text)) _ _ b ∙ bind_at (block_len indent depth lines) _ (suc n) e ∙ ap (λ (k : ℕ). Ok k) (count_more n)
+    elim (decided (is_blank_kind (kind_of line.text))) [
+      | inl b ↦ if_true (is_blank_kind (kind_of line.text)) _ _ b ∙ bind_at (block_len indent depth lines) _ (suc n) e ∙ ap (λ (k : ℕ). Ok k) (count_more n)
       | inr b ↦
-          if_false (is_blank (kind_of line.text)) _ _ b ∙ if_true (nat_le depth (spaces line.text)) _ _ (or_right (is_blank (kind_of line.text)) (nat_le depth (spaces line.text)) b h)
+          if_false (is_blank_kind (kind_of line.text)) _ _ b ∙ if_true (nat_le depth (spaces line.text)) _ _ (or_right (is_blank_kind (kind_of line.text)) (nat_le depth (spaces line.text)) b h)
           ∙ bind_at (block_len indent depth lines) _ (suc n) e ∙ ap (λ (k : ℕ). Ok k) (sym (one_more (suc n)))
     ]
 
 pub counted : {indent depth joint : ℕ} {lines : List Line} {text : List ℕ} {after : List Line} → BlockText indent depth joint lines text after → Counted indent depth joint lines text after
 counted {indent} {depth} {joint} (grammar.last line after b h ends) = record {
   less = 0;
-  len = if_false (is_blank (kind_of line.text)) _ _ b ∙ if_true (nat_le depth (spaces line.text)) _ _ (or_right (is_blank (kind_of line.text)) (nat_le depth (spaces line.text)) b h)
+  len = if_false (is_blank_kind (kind_of line.text)) _ _ b ∙ if_true (nat_le depth (spaces line.text)) _ _ (or_right (is_blank_kind (kind_of line.text)) (nat_le depth (spaces line.text)) b h)
       ∙ bind_at (block_len indent depth after) _ 0 (ends_zero indent depth after ends);
   text_is = append-nil (unindented depth line.text) ∙ line_drop depth line h;
   after_is = refl;
@@ -340,6 +340,6 @@ counted {indent} {depth} {joint} (grammar.next line lines text after h more) =
     record {
       less = suc c.less;
       len = within_len indent depth line lines c.less h c.len;
-      text_is = joined_more indent depth joint line lines c.less c.len ∙ ap (λ (u : List ℕ). u ++ joint ∷ joined joint depth (take (suc c.less) lines)) (line_drop depth line h) ∙ ap (λ (u : List ℕ). drop depth line.text ++ joint ∷ u) c.text_is;
+      text_is = joined_more indent depth joint line lines c.less c.len ∙ ap (λ (u : List ℕ). u ++ joint ∷ joined_lines joint depth (take (suc c.less) lines)) (line_drop depth line h) ∙ ap (λ (u : List ℕ). drop depth line.text ++ joint ∷ u) c.text_is;
       after_is = c.after_is;
     }

@@ -4,26 +4,26 @@ use Rattle.std.proofs.lemmas.Bool.Decides.{nat_tests}
 use Rattle.ps_yaml.specs.declared.nodes.Node.{Node}
 use Rattle.ps_yaml.specs.Lines.{Line, content, from_content}
 use Rattle.ps_yaml.specs.Trees.{next_in, item_at, item_then, items_at, is_item}
-use Rattle.ps_yaml.specs.Grammar.{StandsAt, Ends, ListEnds, Items}
+use Rattle.ps_yaml.specs.Grammar.{LineStandsAt, EndsBlock, ListEnds, Items}
 use Rattle.ps_yaml.specs.Grammar as grammar
 use Rattle.ps_yaml.proofs.Binds.{bind_ok, chosen, read}
 use Rattle.ps_yaml.proofs.ScalarLaws.{item_found}
 use Rattle.ps_yaml.proofs.Shorter.{content_shorter, leaves_ok, item_leaves}
 
-pub next_none : (indent : ℕ) (lines : List Line) → next_in indent lines ≡ Ok None → Ends indent lines
+pub next_none : (indent : ℕ) (lines : List Line) → next_in indent lines ≡ Ok None → EndsBlock indent lines
 next_none indent [] e = tt
 next_none indent (line ∷ lines) e = grind (arith, nat_tests)
 
-pub next_some : (indent : ℕ) (lines : List Line) (x : Line × List Line) → next_in indent lines ≡ Ok (Some x) → (lines ≡ x.0 ∷ x.1) × StandsAt indent x.0
+pub next_some : (indent : ℕ) (lines : List Line) (x : Line × List Line) → next_in indent lines ≡ Ok (Some x) → (lines ≡ x.0 ∷ x.1) × LineStandsAt indent x.0
 next_some indent [] x e = cc
 next_some indent (line ∷ lines) x e = grind (arith, nat_tests)
 
-list_ends : (shared : Bool) (indent : ℕ) (lines : List Line) → Ends indent lines → ListEnds shared indent lines
+list_ends : (shared : Bool) (indent : ℕ) (lines : List Line) → EndsBlock indent lines → ListEnds shared indent lines
 list_ends true indent [] h = tt
 list_ends true indent (line ∷ lines) h = (h.0, omega (arith, h.1), λ e. absurd (omega (arith, h.1)))
 list_ends false indent lines h = h
 
-shared_ends : (shared : Bool) (indent : ℕ) (lines : List Line) (line : Line) (own : List Line) → shared ≡ true → lines ≡ line ∷ own → StandsAt indent line → is_item (content line) ≡ false → ListEnds shared indent lines
+shared_ends : (shared : Bool) (indent : ℕ) (lines : List Line) (line : Line) (own : List Line) → shared ≡ true → lines ≡ line ∷ own → LineStandsAt indent line → is_item (content line) ≡ false → ListEnds shared indent lines
 shared_ends false indent lines line own s e at none = cc
 shared_ends true indent lines line own s e at none = subst (λ (ls : List Line). ListEnds true indent ls) (sym e) (at.0, omega (arith, at.1), λ _. none)
 

@@ -8,8 +8,8 @@ use Rattle.ps_yaml.specs.declared.nodes.Pair.{Pair}
 use Rattle.ps_yaml.specs.declared.faults.YamlFault.{YamlFault}
 use Rattle.ps_yaml.specs.Lines.{Line, kind_of, spaces, content, from_content, lines_of}
 use Rattle.ps_yaml.specs.Scalars.{is_tabbed, is_line_end}
-use Rattle.ps_yaml.specs.Trees.{next_in, items_at, is_item, is_entry, new_name, name_of, is_named, pair_of, pair_then, pairs_at, value_at, value_offset, below, root, document_of}
-use Rattle.ps_yaml.specs.Grammar.{StandsAt, Ends, HasNoBlock, Items, Entries, Value, after_colon, IsDocument, Spells}
+use Rattle.ps_yaml.specs.Trees.{next_in, items_at, is_item, is_mapping_entry, new_name, entry_name, is_named, pair_of, pair_then, pairs_at, value_at, value_offset, below, root, document_of}
+use Rattle.ps_yaml.specs.Grammar.{LineStandsAt, EndsBlock, HasNoBlock, Items, Entries, Value, after_colon, IsDocument, Spells}
 use Rattle.ps_yaml.specs.Grammar as grammar
 use Rattle.ps_yaml.proofs.Binds.{bind_ok, chosen, read}
 use Rattle.ps_yaml.proofs.ScalarLaws.{scalar_found}
@@ -52,7 +52,7 @@ below_found turns more line own (next ∷ others) out is end short e =
             (grammar.list line own next others b.0.0 b.0.1 end is t.0 (grind (arith, nat_tests, w)) w.0
             (found_items turns (spaces line.text == spaces next.text) (spaces next.text) [] (next ∷ others) b.0 short b.1))
         | inr i ↦ elim (chosen (nat_lt (spaces line.text) (spaces next.text)) _ _ (Ok out) i.1) [
-          | inl d ↦ elim (chosen (is_entry (content next)) _ _ (Ok out) d.1) [
+          | inl d ↦ elim (chosen (is_mapping_entry (content next)) _ _ (Ok out) d.1) [
             | inl n ↦
                 let b = bind_ok (maps turns (spaces next.text) (next ∷ others)) _ out n.1 in
                 value_of line own (Map b.0.0 next.number (spaces next.text + 1), b.0.1) out b.2
@@ -75,12 +75,12 @@ value_found turns more line own out short e =
       | inr h ↦ grammar.scalar line own out.0 out.1 h.0 (scalar_found (spaces line.text) line (value_offset line + spaces (after_colon line)) own out h.1)
     ]
 
-named : (before : List Pair) (line : Line) (name : List ℕ) → new_name before line ≡ Ok name → (is_entry (content line) ≡ true) × (is_named (name_of line) before ≡ false) × (name ≡ name_of line)
+named : (before : List Pair) (line : Line) (name : List ℕ) → new_name before line ≡ Ok name → (is_mapping_entry (content line) ≡ true) × (is_named (entry_name line) before ≡ false) × (name ≡ entry_name line)
 unfolding new_name
 named before line name e =
-    elim (chosen (not (is_entry (content line))) _ _ (Ok name) e) [
+    elim (chosen (not (is_mapping_entry (content line))) _ _ (Ok name) e) [
       | inl h ↦ absurd (let z = h.1 in cc)
-      | inr h ↦ elim (chosen (is_named (name_of line) before) _ _ (Ok name) h.1) [
+      | inr h ↦ elim (chosen (is_named (entry_name line) before) _ _ (Ok name) h.1) [
         | inl n ↦ absurd (let z = n.1 in cc)
         | inr n ↦ (grind (arith, h.0), n.0, (let z = n.1 in cc))
       ]
@@ -99,9 +99,9 @@ pairs_step turns indent more before lines out short (Some x) n e =
     let whole : length (from_content lines) ≡ suc (length x.1) = ap length w.0 in
     let own : length x.1 ≤ turns = omega (arith, content_shorter lines, whole) in
     let value = value_found turns more x.0 x.1 b.0 own b.1 in
-    let rest : pairs_at turns indent (before ++ pair_of (name_of x.0) b.0.0 x.0 ∷ []) b.0.1 ≡ Ok out = subst (λ (m : List ℕ). pairs_at turns indent (before ++ pair_of m b.0.0 x.0 ∷ []) b.0.1 ≡ Ok out) name.2 b.2 in
+    let rest : pairs_at turns indent (before ++ pair_of (entry_name x.0) b.0.0 x.0 ∷ []) b.0.1 ≡ Ok out = subst (λ (m : List ℕ). pairs_at turns indent (before ++ pair_of m b.0.0 x.0 ∷ []) b.0.1 ≡ Ok out) name.2 b.2 in
     grammar.entry indent before lines x.0 x.1 b.0.0 b.0.1 out.0 out.1 w.0 w.1 name.0 name.1 value
-    (more indent (before ++ pair_of (name_of x.0) b.0.0 x.0 ∷ []) b.0.1 out (omega (arith, value_shorter value, own)) rest)
+    (more indent (before ++ pair_of (entry_name x.0) b.0.0 x.0 ∷ []) b.0.1 out (omega (arith, value_shorter value, own)) rest)
 
 pub found_pairs : (turns : ℕ) → PairsFound turns
 found_pairs zero indent before [] out short e = entries_of indent before [] (before, []) out e (grammar.entries_end indent before [] tt)
@@ -110,7 +110,7 @@ found_pairs (suc turns) indent before lines out short e =
     let b = bind_ok (next_in indent (from_content lines)) _ out e in
     pairs_step turns indent (found_pairs turns) before lines out short b.0 b.1 b.2
 
-ends_at_zero : (indent : ℕ) (lines : List Line) → Ends indent lines → indent ≡ 0 → lines ≡ []
+ends_at_zero : (indent : ℕ) (lines : List Line) → EndsBlock indent lines → indent ≡ 0 → lines ≡ []
 ends_at_zero indent [] h e = refl
 ends_at_zero indent (line ∷ lines) h e = absurd (omega (arith, h.1))
 

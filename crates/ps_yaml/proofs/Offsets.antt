@@ -4,7 +4,7 @@ use Rattle.std.proofs.lemmas.Bool.Decides.{nat_tests}
 use Rattle.std.proofs.lemmas.List.{length-drop}
 use Rattle.ps_yaml.specs.Lines.{Line, begins, spaces, content}
 use Rattle.ps_yaml.specs.Scalars.{is_empty, is_line_end, is_break}
-use Rattle.ps_yaml.specs.Trees.{is_item, is_entry, item_offset, name_len, value_offset}
+use Rattle.ps_yaml.specs.Trees.{is_item, is_mapping_entry, item_offset, name_len, value_offset}
 
 third : (a b c d : Bool) → (a && b && c && d) ≡ true → c ≡ true
 third a b c d h = grind arith
@@ -33,8 +33,8 @@ item_within line h =
     let a : s < length (drop 1 c) = within (drop 1 c) s (some (drop s (drop 1 c)) (third (begins 45 c) (nat_lt 0 s) (not (is_empty (drop s (drop 1 c)))) (not (begins 35 (drop s (drop 1 c)))) h)) in
     omega (arith, a, length-drop 1 c, length-drop (spaces line.text) line.text)
 
-pub value_within : (line : Line) → is_entry (content line) ≡ true → value_offset line ≤ length line.text
-unfolding is_entry content
+pub value_within : (line : Line) → is_mapping_entry (content line) ≡ true → value_offset line ≤ length line.text
+unfolding is_mapping_entry content
 value_within line h =
     let c = drop (spaces line.text) line.text in
     let n = name_len c in

@@ -9,18 +9,18 @@ use Rattle.ps_yaml.specs.declared.faults.YamlFault.{YamlFault}
 use Rattle.ps_yaml.specs.Faults.{◌>>=◌}
 use Rattle.ps_yaml.specs.Lines.{Line, kind_of, spaces, content, from_content, begins}
 use Rattle.ps_yaml.specs.Scalars.{is_tabbed, is_line_end, is_empty, is_break}
-use Rattle.ps_yaml.specs.Trees.{next_in, item_at, item_then, items_at, is_item, is_entry, name_len, begins_name, new_name, name_of, is_named, pairs_at, value_at, value_offset, below, root, document_of}
-use Rattle.ps_yaml.specs.Grammar.{StandsAt, Ends, ListEnds, HasNoBlock, Items, items_end, item, Entries, entries_end, entry, Value, scalar, map, list, empty, after_colon, IsDocument, Spells}
+use Rattle.ps_yaml.specs.Trees.{next_in, item_at, item_then, items_at, is_item, is_mapping_entry, name_len, begins_name, new_name, entry_name, is_named, pairs_at, value_at, value_offset, below, root, document_of}
+use Rattle.ps_yaml.specs.Grammar.{LineStandsAt, EndsBlock, ListEnds, HasNoBlock, Items, items_end, item, Entries, entries_end, entry, Value, scalar, map, list, empty, after_colon, IsDocument, Spells}
 use Rattle.ps_yaml.specs.Grammar as grammar
 use Rattle.ps_yaml.proofs.Binds.{if_true, if_false, bind_at}
 use Rattle.ps_yaml.proofs.ScalarLaws.{scalar_only, item_only}
 use Rattle.ps_yaml.proofs.Shorter.{content_shorter, leaves_ok, item_leaves}
 use Rattle.ps_yaml.proofs.Taken.{value_shorter}
 
-next_at : (indent : ℕ) (line : Line) (own : List Line) → StandsAt indent line → next_in indent (line ∷ own) ≡ Ok (Some (line, own))
+next_at : (indent : ℕ) (line : Line) (own : List Line) → LineStandsAt indent line → next_in indent (line ∷ own) ≡ Ok (Some (line, own))
 next_at indent line own at = grind (arith, nat_tests)
 
-next_ends : (indent : ℕ) (lines : List Line) → Ends indent lines → next_in indent lines ≡ Ok None
+next_ends : (indent : ℕ) (lines : List Line) → EndsBlock indent lines → next_in indent lines ≡ Ok None
 next_ends indent [] h = refl
 next_ends indent (line ∷ lines) h = grind (arith, nat_tests)
 
@@ -55,8 +55,8 @@ only_items {shared = shared} {indent = indent} (item before lines line own node 
     ∙ only_items more turns (omega (arith, whole, left, content_shorter lines))
 
 -- no text begins both an entry and an item
-not_item : (b : ℕ) (bytes : List ℕ) (dash : Bool) → (b == 45) ≡ dash → is_entry (b ∷ bytes) ≡ true → is_item (b ∷ bytes) ≡ false
-unfolding is_item is_entry name_len
+not_item : (b : ℕ) (bytes : List ℕ) (dash : Bool) → (b == 45) ≡ dash → is_mapping_entry (b ∷ bytes) ≡ true → is_item (b ∷ bytes) ≡ false
+unfolding is_item is_mapping_entry name_len
 not_item b bytes true d h =
     let is : b ≡ 45 = grind (arith, nat_tests) in
     let no : begins_name (b ∷ bytes) ≡ false = ap (λ (x : ℕ). begins_name (x ∷ bytes)) is in
@@ -64,19 +64,19 @@ not_item b bytes true d h =
     absurd (let z : false ≡ true = sym (ap (λ (n : ℕ). nat_lt 0 n && begins 58 (drop n (b ∷ bytes)) && is_break (drop 1 (drop n (b ∷ bytes)))) none) ∙ h in cc)
 not_item b bytes false d h = ap (λ (v : Bool). v && nat_lt 0 (spaces bytes) && not (is_empty (drop (spaces bytes) bytes)) && not (begins 35 (drop (spaces bytes) bytes))) d
 
-entry_no_item : (text : List ℕ) → is_entry text ≡ true → is_item text ≡ false
+entry_no_item : (text : List ℕ) → is_mapping_entry text ≡ true → is_item text ≡ false
 unfolding is_item
 entry_no_item [] h = refl
 entry_no_item (b ∷ bytes) h = not_item b bytes (b == 45) refl h
 
-pairs_close : (turns indent : ℕ) (before : List Pair) (lines : List Line) → length lines ≤ turns → Ends indent (from_content lines) → pairs_at turns indent before lines ≡ Ok (before, from_content lines)
+pairs_close : (turns indent : ℕ) (before : List Pair) (lines : List Line) → length lines ≤ turns → EndsBlock indent (from_content lines) → pairs_at turns indent before lines ≡ Ok (before, from_content lines)
 pairs_close zero indent before [] short h = refl
 pairs_close zero indent before (line ∷ lines) short h = absurd (omega arith)
 pairs_close (suc turns) indent before lines short h = bind_at (next_in indent (from_content lines)) _ None (next_ends indent (from_content lines) h)
 
-new_is : (before : List Pair) (line : Line) → is_entry (content line) ≡ true → is_named (name_of line) before ≡ false → new_name before line ≡ Ok (name_of line)
+new_is : (before : List Pair) (line : Line) → is_mapping_entry (content line) ≡ true → is_named (entry_name line) before ≡ false → new_name before line ≡ Ok (entry_name line)
 unfolding new_name
-new_is before line e n = if_false (not (is_entry (content line))) _ _ (ap not e) ∙ if_false (is_named (name_of line) before) _ _ n
+new_is before line e n = if_false (not (is_mapping_entry (content line))) _ _ (ap not e) ∙ if_false (is_named (entry_name line) before) _ _ n
 
 abbrev maps : ℕ → ℕ → List Line → Result (List Pair × List Line) YamlFault
 maps turns = λ deeper. pairs_at turns deeper []
@@ -110,7 +110,7 @@ mutual
       let whole : length (from_content lines) ≡ suc (length own) = ap length is in
       let own_short : length own ≤ turns = omega (arith, whole, content_shorter lines) in
       bind_at (next_in indent (from_content lines)) _ (Some (line, own)) (ap (next_in indent) is ∙ next_at indent line own at)
-      ∙ bind_at (new_name before line) _ (name_of line) (new_is before line begins new)
+      ∙ bind_at (new_name before line) _ (entry_name line) (new_is before line begins new)
       ∙ bind_at (value_at (maps turns) turns line own) _ (node, after) (only_value value turns own_short)
       ∙ only_entries more turns (omega (arith, own_short, value_shorter value))
 
@@ -123,7 +123,7 @@ mutual
       ∙ if_false (is_tabbed (kind_of first.text)) _ _ tab
       ∙ if_false (is_item (content first) && nat_le (spaces line.text) (spaces first.text)) _ _ (first_false (is_item (content first)) _ (entry_no_item (content first) begins))
       ∙ if_true (nat_lt (spaces line.text) (spaces first.text)) _ _ (grind (arith, nat_tests, deeper))
-      ∙ if_true (is_entry (content first)) _ _ begins
+      ∙ if_true (is_mapping_entry (content first)) _ _ begins
       ∙ bind_at (maps turns (spaces first.text) (first ∷ others)) _ (pairs, after) (only_entries more turns all)
   only_value (list line own first others items after end is tab deeper begins more) turns short =
       let all : length (first ∷ others) ≤ turns = subst (λ (ls : List Line). length ls ≤ turns) is (omega (arith, short, content_shorter own)) in

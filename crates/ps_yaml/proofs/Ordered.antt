@@ -5,10 +5,10 @@ use Rattle.ps_yaml.specs.declared.nodes.Node.{Node, out-Node, out-roll-Node}
 use Rattle.ps_yaml.specs.declared.nodes.Node.TheOpen as layers
 use Rattle.ps_yaml.specs.declared.nodes.Node.TheVariants as nodes
 use Rattle.ps_yaml.specs.declared.nodes.Pair.{Pair}
-use Rattle.ps_yaml.specs.Lines.{Line, lines_of, numbered, split_lines, has_marker, spaces, from_content, is_met}
+use Rattle.ps_yaml.specs.Lines.{Line, lines_of, numbered_lines, split_lines, has_marker, spaces, from_content, is_met}
 use Rattle.ps_yaml.specs.ScalarGrammar.{IsScalar, Continues, BlockText}
 use Rattle.ps_yaml.specs.ScalarGrammar as scalars
-use Rattle.ps_yaml.specs.Trees.{name_of, pair_of, value_offset}
+use Rattle.ps_yaml.specs.Trees.{entry_name, pair_of, value_offset}
 use Rattle.ps_yaml.specs.Grammar.{Items, Entries, Value, IsDocument, Spells}
 use Rattle.ps_yaml.specs.Grammar as grammar
 use Rattle.ps_yaml.specs.Places.{NodeWithin, scalar_within, map_within, list_within, PairsWithin, no_pairs, next_pair, ItemsWithin, no_items, next_item, InOrder, PlacesRise}
@@ -38,13 +38,13 @@ content_rises first lines r = dropped (position_or_len is_met lines) first lines
 met : (first : ℕ) (lines : List Line) (line : Line) (own : List Line) → from_content lines ≡ line ∷ own → Rising first lines → Rising first (line ∷ own)
 met first lines line own is r = subst (Rising first) is (content_rises first lines r)
 
-numbered_rise : (first : ℕ) (texts : List (List ℕ)) → Rising first (numbered first texts)
+numbered_rise : (first : ℕ) (texts : List (List ℕ)) → Rising first (numbered_lines first texts)
 numbered_rise first [] = tt
 numbered_rise first (text ∷ texts) = (omega arith, numbered_rise (first + 1) texts)
 
 document_rises : (bytes : List ℕ) → Rising 1 (lines_of bytes)
 unfolding lines_of
-document_rises bytes = let lines = numbered 1 (split_lines bytes) in dropped (if has_marker lines then 1 else 0) 1 lines (numbered_rise 1 (split_lines bytes))
+document_rises bytes = let lines = numbered_lines 1 (split_lines bytes) in dropped (if has_marker lines then 1 else 0) 1 lines (numbered_rise 1 (split_lines bytes))
 
 -- ---- scalars
 
@@ -126,7 +126,7 @@ mutual
       record { own = []; is = sym (append_nil before); behind = first; within = no_pairs first first (omega arith); left = content_rises first lines r }
   entries_placed (grammar.entry indent before lines line own node after all rest is at begins new value more) first r =
       let m = met first lines line own is r in
-      let pair = pair_of (name_of line) node line in
+      let pair = pair_of (entry_name line) node line in
       let v = value_placed value m.1 in
       let o = entries_placed more v.behind v.left in
       record { own = pair ∷ o.own; is = o.is ∙ append_assoc before (pair ∷ []) o.own; behind = o.behind; within = next_pair first v.behind o.behind pair o.own m.0 v.within o.within; left = o.left }

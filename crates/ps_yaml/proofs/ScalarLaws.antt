@@ -9,7 +9,7 @@ use Rattle.ps_yaml.specs.Faults.{◌>>=◌}
 use Rattle.std.specs.List.{list_all}
 use Rattle.ps_yaml.specs.Lines.{Line, is_space, spaces}
 use Rattle.ps_yaml.specs.Trees.{item_at, is_nested, item_offset}
-use Rattle.ps_yaml.specs.Scalars.{bad_scalar, scalar_at, plain_scalar, plain_part, continued, has_colon, closed, is_line_end, single_scalar, single_closed, single_quoted, double_scalar, double_closed, double_quoted, unescaped, block_scalar, block_styled, block_lines, block_indent, block_len, style_of, trimmed, joined, ended, is_left_out, begins_none}
+use Rattle.ps_yaml.specs.Scalars.{bad_scalar, scalar_at, plain_scalar, plain_part, continued, has_colon, closed, is_line_end, single_scalar, single_closed, single_quoted, double_scalar, double_closed, double_quoted, unescaped, block_scalar, block_styled, block_lines, block_indent, block_len, style_of, trimmed, joined_lines, ended, is_left_out, begins_none}
 use Rattle.ps_yaml.specs.ScalarGrammar.{IsScalar, Escapes, doubled, is_mark, begins_block, IsPart, Continues, IsBlockMark, from_written, EndsBlock, BlockText}
 use Rattle.ps_yaml.specs.ScalarGrammar as grammar
 use Rattle.ps_yaml.proofs.Binds.{bind_ok, chosen, read, if_true, if_false, bind_at}
@@ -71,13 +71,13 @@ marked text style e =
 
 block_read : (indent : ℕ) (line : Line) (offset : ℕ) (lines : List Line) (style : Style) → Marked (drop offset line.text) style
     → (depth n : ℕ) → First indent depth (from_written lines) → Walked indent depth style.joint lines n
-    → IsScalar indent line offset lines (Scalar (ended style.ends (joined style.joint depth (take n lines))) line.number (offset + 1) false) (drop n lines)
+    → IsScalar indent line offset lines (Scalar (ended style.ends (joined_lines style.joint depth (take n lines))) line.number (offset + 1) false) (drop n lines)
 block_read indent line offset lines style m depth zero f w =
     let e : EndsBlock indent depth (f.first ∷ f.others) = subst (EndsBlock indent depth) f.is w in
     let d = f.depth_is in
     absurd (omega (arith, e.0, d))
 block_read indent line offset lines style m depth (suc n) f w =
-    let text = joined style.joint depth (take (suc n) lines) in
+    let text = joined_lines style.joint depth (take (suc n) lines) in
     let block : BlockText indent (spaces f.first.text) style.joint lines text (drop (suc n) lines) = subst (λ (d : ℕ). BlockText indent d style.joint lines text (drop (suc n) lines)) (sym f.depth_is) w in
     subst (λ (t : List ℕ). IsScalar indent line offset lines (Scalar t line.number (offset + 1) false) (drop (suc n) lines)) (ending_is style.ends text)
     (grammar.block m.mark m.behind style.joint (ending style.ends) f.first f.others text (drop (suc n) lines) m.cut m.spaced m.is f.is f.untabbed f.deeper block)
@@ -93,8 +93,8 @@ lines_case indent line offset lines out style m None d block e r =
     (grammar.empty_block m.mark m.behind style.joint (ending style.ends) m.cut m.spaced m.is (no_block_found indent lines d)))
 lines_case indent line offset lines out style m (Some depth) d block e r =
     let b = bind_ok (block_len indent depth lines) _ block e in
-    let same : (ended style.ends (joined style.joint depth (take b.0 lines)), drop b.0 lines) ≡ block = (let z = b.2 in cc) in
-    scalar_of indent line offset lines (Scalar (ended style.ends (joined style.joint depth (take b.0 lines))) line.number (offset + 1) false, drop b.0 lines) out
+    let same : (ended style.ends (joined_lines style.joint depth (take b.0 lines)), drop b.0 lines) ≡ block = (let z = b.2 in cc) in
+    scalar_of indent line offset lines (Scalar (ended style.ends (joined_lines style.joint depth (take b.0 lines))) line.number (offset + 1) false, drop b.0 lines) out
     (ap (λ (x : List ℕ × List Line). read (Scalar x.0 line.number (offset + 1) false, x.1)) same ∙ r)
     (block_read indent line offset lines style m depth b.0 (first_found indent lines depth d) (walk indent depth style.joint lines b.0 b.1))
 
@@ -231,7 +231,7 @@ scalar_only indent line offset lines (grammar.block mark behind joint close firs
     let c = counted block in
     let n = suc c.less in
     block_only indent line offset lines mark behind joint close cut spaced is s
-    ∙ bind_at (block_lines style indent lines (block_indent indent lines)) _ (ended s.ends (joined joint depth (take n lines)), drop n lines)
+    ∙ bind_at (block_lines style indent lines (block_indent indent lines)) _ (ended s.ends (joined_lines joint depth (take n lines)), drop n lines)
     (ap (block_lines style indent lines) (first_only indent lines first others front untabbed deep) ∙ bind_at (block_len indent depth lines) _ n c.len)
     ∙ ap (λ (t : List ℕ). read (Scalar (ended s.ends t) line.number (offset + 1) false, drop n lines)) c.text_is
     ∙ ap (λ (a : List Line). read (Scalar (ended s.ends text) line.number (offset + 1) false, a)) c.after_is

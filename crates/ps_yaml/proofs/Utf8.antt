@@ -9,7 +9,7 @@ use Rattle.std.proofs.lemmas.Str.{IsUtf8-from_is_utf8, is_utf8-from_IsUtf8, IsUt
 use Rattle.std.proofs.lemmas.Bool.Decides.{nat_tests}
 use Rattle.std.proofs.lemmas.Grind.{common_steps}
 use Rattle.ps_yaml.specs.Lines.{IsText, Line, begins, spaces, content, is_other, is_feed, is_space_or_tab, without_return}
-use Rattle.ps_yaml.specs.Trees.{is_entry, is_item, name_len, name_of, value_offset, item_offset}
+use Rattle.ps_yaml.specs.Trees.{is_mapping_entry, is_item, name_len, entry_name, value_offset, item_offset}
 use Rattle.ps_yaml.specs.Scalars.{is_empty, is_break, unindented, before_comment, single_quoted, behind_quote, double_quoted, escaped, unescaped, after_backslash, onto}
 use Rattle.ps_yaml.proofs.Binds.{bind_ok, chosen, decided}
 use Rattle.ps_yaml.proofs.Quotes.{front_found, or_found, double_cut}
@@ -242,8 +242,8 @@ dash_there : (a b c d : Bool) → (a && b && c && d) ≡ true → a ≡ true
 dash_there a b c d h = grind arith
 
 -- both sides of the colon
-pub sides_text : (text : List ℕ) → is_entry text ≡ true → IsText text → IsText (take (name_len text) text) × IsText (drop (name_len text + 1) text)
-unfolding is_entry
+pub sides_text : (text : List ℕ) → is_mapping_entry text ≡ true → IsText text → IsText (take (name_len text) text) × IsText (drop (name_len text + 1) text)
+unfolding is_mapping_entry
 sides_text text e h =
     let n = name_len text in
     let colon : drop n text ≡ 58 ∷ drop 1 (drop n text) = begun_by 58 (drop n text) (colon_there (nat_lt 0 n) (begins 58 (drop n text)) (is_break (drop 1 (drop n text))) e) in
@@ -251,11 +251,11 @@ sides_text text e h =
     let c = cut (take n text) 58 (drop 1 (drop n text)) (omega arith) (subst (λ (u : List ℕ). IsText u) whole h) in
     (c.0, subst (λ (u : List ℕ). IsText u) (drop_drop n 1 text) c.1)
 
-pub name_text : (line : Line) → is_entry (content line) ≡ true → IsText line.text → IsText (name_of line)
-unfolding name_of
+pub name_text : (line : Line) → is_mapping_entry (content line) ≡ true → IsText line.text → IsText (entry_name line)
+unfolding entry_name
 name_text line e h = (sides_text (content line) e (content_text line h)).0
 
-pub value_text : (line : Line) → is_entry (content line) ≡ true → IsText line.text → IsText (drop (value_offset line) line.text)
+pub value_text : (line : Line) → is_mapping_entry (content line) ≡ true → IsText line.text → IsText (drop (value_offset line) line.text)
 unfolding content
 value_text line e h =
     let s = spaces line.text in

@@ -34,9 +34,9 @@ abbrev pub without_return : List ℕ → List ℕ
 without_return [] = []
 without_return (b ∷ bytes) = if b == 13 && length bytes == 0 then [] else b ∷ without_return bytes
 
-abbrev pub numbered : ℕ → List (List ℕ) → List Line
-numbered number [] = []
-numbered number (text ∷ texts) = record { number = number; text = text } ∷ numbered (number + 1) texts
+abbrev pub numbered_lines : ℕ → List (List ℕ) → List Line
+numbered_lines number [] = []
+numbered_lines number (text ∷ texts) = record { number = number; text = text } ∷ numbered_lines (number + 1) texts
 
 abbrev pub has_marker : List Line → Bool
 has_marker [] = false
@@ -47,7 +47,7 @@ abbrev pub after_marker : List Line → List Line
 after_marker lines = drop (if has_marker lines then 1 else 0) lines
 
 unfoldable pub lines_of : List ℕ → List Line
-lines_of bytes = after_marker (numbered 1 (split_lines bytes))
+lines_of bytes = after_marker (numbered_lines 1 (split_lines bytes))
 
 abbrev pub is_space : ℕ → Bool
 is_space b = b == 32

@@ -4,7 +4,7 @@ use Rattle.std.specs.List.{list_all}
 use Rattle.ps_yaml.specs.declared.nodes.Node.{Node}
 use Rattle.ps_yaml.specs.declared.nodes.Node.TheVariants.{Scalar}
 use Rattle.ps_yaml.specs.Lines.{Line, begins, is_space, spaces, content, kind_of, is_passed}
-use Rattle.ps_yaml.specs.Scalars.{is_empty, is_line_end, has_colon, escaped, is_content, is_blank, is_tabbed, is_left_out, begins_none}
+use Rattle.ps_yaml.specs.Scalars.{is_empty, is_line_end, has_colon, escaped, is_content, is_blank_kind, is_tabbed, is_left_out, begins_none}
 
 -- no tab stands in the line's indentation
 abbrev pub HasNoTab : Line → Type 0
@@ -67,7 +67,7 @@ pub data IsBlockMark : List ℕ → ℕ → List ℕ → Type 0 where
 -- the lines from the first that is not blank
 abbrev pub from_written : List Line → List Line
 from_written [] = []
-from_written (line ∷ lines) = if is_blank (kind_of line.text) then from_written lines else line ∷ lines
+from_written (line ∷ lines) = if is_blank_kind (kind_of line.text) then from_written lines else line ∷ lines
 
 -- no block begins: there is no line, or the first one is not deeper, or a tab stands in its indentation
 abbrev pub BeginsNoBlock : ℕ → List Line → Type 0
@@ -81,12 +81,12 @@ EndsBlock indent depth (line ∷ lines) = (spaces line.text < depth) × BeginsNo
 
 -- a line within a block is blank, or stands at the block's depth at least
 abbrev pub is_within : ℕ → Line → Bool
-is_within depth line = is_blank (kind_of line.text) || nat_le depth (spaces line.text)
+is_within depth line = is_blank_kind (kind_of line.text) || nat_le depth (spaces line.text)
 
 -- the text of a block's lines, each without its depth, and the lines after them; the last one is not blank
 pub data BlockText (indent depth joint : ℕ) : List Line → List ℕ → List Line → Type 0 where
   last : (line : Line) (after : List Line)
-      → is_blank (kind_of line.text) ≡ false → is_within depth line ≡ true → EndsBlock indent depth (from_written after) → BlockText indent depth joint (line ∷ after) (drop depth line.text) after
+      → is_blank_kind (kind_of line.text) ≡ false → is_within depth line ≡ true → EndsBlock indent depth (from_written after) → BlockText indent depth joint (line ∷ after) (drop depth line.text) after
   next : (line : Line) (lines : List Line) (text : List ℕ) (after : List Line)
       → is_within depth line ≡ true → BlockText indent depth joint lines text after → BlockText indent depth joint (line ∷ lines) (drop depth line.text ++ joint ∷ text) after
 

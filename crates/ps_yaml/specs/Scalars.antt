@@ -158,11 +158,11 @@ style_of mark =
     else if bytes_eq mark (codes ">-") then style 32 false
     else None
 
-abbrev pub is_blank : Kind → Bool
-is_blank Blank = true
-is_blank Comment = false
-is_blank Tabbed = false
-is_blank Content = false
+abbrev pub is_blank_kind : Kind → Bool
+is_blank_kind Blank = true
+is_blank_kind Comment = false
+is_blank_kind Tabbed = false
+is_blank_kind Content = false
 
 abbrev pub is_tabbed : Kind → Bool
 is_tabbed Blank = false
@@ -174,7 +174,7 @@ is_tabbed Content = false
 abbrev pub block_indent : ℕ → List Line → Option ℕ
 block_indent indent [] = None
 block_indent indent (line ∷ lines) =
-    if is_blank (kind_of line.text) then block_indent indent lines
+    if is_blank_kind (kind_of line.text) then block_indent indent lines
     else if is_tabbed (kind_of line.text) then None
     else if nat_lt indent (spaces line.text) then Some (spaces line.text)
     else None
@@ -186,7 +186,7 @@ count_blank more = if more == 0 then 0 else more + 1
 abbrev pub block_len : ℕ → ℕ → List Line → Result ℕ YamlFault
 block_len indent depth [] = Ok 0
 block_len indent depth (line ∷ lines) =
-    if is_blank (kind_of line.text) then block_len indent depth lines >>= (λ more. Ok (count_blank more))
+    if is_blank_kind (kind_of line.text) then block_len indent depth lines >>= (λ more. Ok (count_blank more))
     else if nat_le depth (spaces line.text) then block_len indent depth lines >>= (λ more. Ok (more + 1))
     else if is_tabbed (kind_of line.text) then Ok 0
     else if nat_lt indent (spaces line.text) then Err (BadIndent line.number 1)
@@ -199,9 +199,9 @@ unindented (suc depth) [] = []
 unindented (suc depth) (b ∷ text) = if is_space_or_tab b then unindented depth text else b ∷ text
 
 -- the lines without the block's indent, joined
-abbrev pub joined : ℕ → ℕ → List Line → List ℕ
-joined joint depth [] = []
-joined joint depth (line ∷ lines) = unindented depth line.text ++ flat_map (λ (l : Line). joint ∷ unindented depth l.text) lines
+abbrev pub joined_lines : ℕ → ℕ → List Line → List ℕ
+joined_lines joint depth [] = []
+joined_lines joint depth (line ∷ lines) = unindented depth line.text ++ flat_map (λ (l : Line). joint ∷ unindented depth l.text) lines
 
 abbrev pub ended : Bool → List ℕ → List ℕ
 ended ends text = if ends then text ++ 10 ∷ [] else text
@@ -210,7 +210,7 @@ abbrev pub block_lines : Style → ℕ → List Line → Option ℕ → Result (
 block_lines s indent lines None = Ok (ended s.ends [], lines)
 block_lines s indent lines (Some depth) = do
   n ← block_len indent depth lines
-  Ok (ended s.ends (joined s.joint depth (take n lines)), drop n lines)
+  Ok (ended s.ends (joined_lines s.joint depth (take n lines)), drop n lines)
 
 abbrev pub block_styled : ℕ → Line → ℕ → List Line → Option Style → Result (Node × List Line) YamlFault
 block_styled indent line offset lines None = Err (Unsupported line.number (offset + 1))

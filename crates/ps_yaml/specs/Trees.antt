@@ -29,8 +29,8 @@ unfoldable pub name_len : List ℕ → ℕ
 name_len text = if begins_name text then position_or_len ends_name text else 0
 
 -- a NAME, a colon, and then a space or the line's end
-unfoldable pub is_entry : List ℕ → Bool
-is_entry text =
+unfoldable pub is_mapping_entry : List ℕ → Bool
+is_mapping_entry text =
     let after = drop (name_len text) text in
     nat_lt 0 (name_len text) && begins 58 after && is_break (drop 1 after)
 
@@ -53,7 +53,7 @@ next_in indent (line ∷ lines) =
 
 -- an item that begins another item or a map
 abbrev pub is_nested : List ℕ → Bool
-is_nested text = (begins 45 text && begins 32 (drop 1 text)) || is_entry text
+is_nested text = (begins 45 text && begins 32 (drop 1 text)) || is_mapping_entry text
 
 -- where an item's scalar begins
 abbrev pub item_offset : Line → ℕ
@@ -83,8 +83,8 @@ items_at (suc turns) shared indent items lines = do
 
 -- ---- maps
 
-unfoldable pub name_of : Line → List ℕ
-name_of line = take (name_len (content line)) (content line)
+unfoldable pub entry_name : Line → List ℕ
+entry_name line = take (name_len (content line)) (content line)
 
 -- where what follows the colon begins
 abbrev pub value_offset : Line → ℕ
@@ -99,7 +99,7 @@ below maps turns line (next ∷ lines) =
       items ← items_at turns (spaces line.text == spaces next.text) (spaces next.text) [] (next ∷ lines)
       Ok (Sequence items.0 next.number (spaces next.text + 1), items.1))
     else if nat_lt (spaces line.text) (spaces next.text) then
-    (if is_entry (content next) then (do
+    (if is_mapping_entry (content next) then (do
       pairs ← maps (spaces next.text) (next ∷ lines)
       Ok (Map pairs.0 next.number (spaces next.text + 1), pairs.1))
     else Err (BadIndent next.number 1))
@@ -118,9 +118,9 @@ is_named name pairs = list_any (λ (p : Pair). bytes_eq p.name name) pairs
 -- the name of a line that begins the next entry of a map with these pairs
 unfoldable pub new_name : List Pair → Line → Result (List ℕ) YamlFault
 new_name pairs line =
-    if not (is_entry (content line)) then bad_scalar line (spaces line.text)
-    else if is_named (name_of line) pairs then Err (DuplicateKey line.number (spaces line.text + 1))
-    else Ok (name_of line)
+    if not (is_mapping_entry (content line)) then bad_scalar line (spaces line.text)
+    else if is_named (entry_name line) pairs then Err (DuplicateKey line.number (spaces line.text + 1))
+    else Ok (entry_name line)
 
 abbrev pub pair_of : List ℕ → Node → Line → Pair
 pair_of name node line = record { name = name; node = node; line = line.number; column = spaces line.text + 1 }

@@ -1,7 +1,7 @@
 ghost use Rattle.std.specs.Prelude.{◌≡◌};
 ghost use Rattle.ps_yaml.specs.declared.faults.YamlFault.TheVariants as faults;
 
-use ps_data::Memory as WantOfMemory;
+use ps_data::Memory as OutOfMemory;
 use std::alloc::{AllocError, AllocFailed};
 use thiserror::Error;
 
@@ -62,10 +62,10 @@ impl<T: Drop> From<AllocFailed<T>> for YamlFault {
     }
 }
 
-impl From<WantOfMemory> for YamlFault {
+impl From<OutOfMemory> for YamlFault {
     ghost from_gives = { λ _ fault. fault ≡ faults.Memory };
 
-    fn from(_refused: WantOfMemory) -> YamlFault {
+    fn from(_refused: OutOfMemory) -> YamlFault {
         YamlFault::Memory
     }
 }

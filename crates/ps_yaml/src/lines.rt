@@ -307,7 +307,7 @@ pub(crate) fn past_first(text: &[u8]) -> &[u8]
 pub(crate) fn split_lines(alloc: Global, bytes: &[u8]) -> Result<Vec<Line>, Memory>
     requires short { length bytes.now < 4294967295 }
     requires utf8 { words.IsText bytes.now }
-    ensures { IfOk result (λ lines. lines.items ≡ words.numbered 1 (words.split_lines bytes.now)) }
+    ensures { IfOk result (λ lines. lines.items ≡ words.numbered_lines 1 (words.split_lines bytes.now)) }
 {
     let mut lines = Vec::new(alloc);
     let mut number = 1u32;

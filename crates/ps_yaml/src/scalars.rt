@@ -424,7 +424,7 @@ fn push_line(text: &mut Vec<u8>, joint: u8, depth: usize, line: &Line) -> Result
 #[tactic(auto, using(crate::proofs::Utf8::none))]
 fn joined(alloc: Global, joint: u8, depth: usize, lines: &[Line]) -> Result<Vec<u8>, Memory>
     requires { joint < 128 }
-    ensures value { IfOk result (λ text. text.items ≡ words.joined joint depth lines.now) }
+    ensures value { IfOk result (λ text. text.items ≡ words.joined_lines joint depth lines.now) }
     ensures utf8 { IfOk result (λ text. lines_of.IsText text.items) }
 {
     let Some((first, others)) = lines.split_first() else {

@@ -104,8 +104,8 @@ fn items_at<'l>(
 /// The bytes of the NAME of a line that begins an entry.
 #[tactic(auto, unfolding(crate::specs::Trees::name_of))]
 fn name_bytes(line: &Line) -> &[u8]
-    requires { words.is_entry (lines_of.content line.now) ≡ true }
-    ensures value { result.now ≡ words.name_of line.now }
+    requires { words.is_mapping_entry (lines_of.content line.now) ≡ true }
+    ensures value { result.now ≡ words.entry_name line.now }
     ensures utf8 { lines_of.IsText result.now }
 {
     let content = line.content();
@@ -115,8 +115,8 @@ fn name_bytes(line: &Line) -> &[u8]
 /// The NAME of a line that begins an entry.
 #[tactic(auto, using(crate::proofs::Utf8::not_utf8))]
 fn name_of(alloc: Global, line: &Line) -> Result<Text, Memory>
-    requires { words.is_entry (lines_of.content line.now) ≡ true }
-    ensures { IfOk result (λ name. name ≡ words.name_of line.now) }
+    requires { words.is_mapping_entry (lines_of.content line.now) ≡ true }
+    ensures { IfOk result (λ name. name ≡ words.entry_name line.now) }
 {
     match Text::from_bytes(alloc, name_bytes(line)) {
         Ok(name) => Ok(name),
@@ -129,7 +129,7 @@ fn name_of(alloc: Global, line: &Line) -> Result<Text, Memory>
 #[tactic(auto, unfolding(crate::specs::Trees::new_name))]
 fn new_name(alloc: Global, map: &OpenMap, line: &Line) -> Result<Text, YamlFault>
     ensures value { Reads (λ name. name) result (words.new_name map.now line.now) }
-    ensures entry { IfOk result (λ _. words.is_entry (lines_of.content line.now) ≡ true) }
+    ensures entry { IfOk result (λ _. words.is_mapping_entry (lines_of.content line.now) ≡ true) }
 {
     if !is_entry(line.content()) {
         return Err(line.bad_scalar(line.indent()));
@@ -147,7 +147,7 @@ fn new_name(alloc: Global, map: &OpenMap, line: &Line) -> Result<Text, YamlFault
 /// Where what follows the colon of an entry begins.
 #[tactic(auto, using(crate::proofs::Offsets::value_within))]
 fn value_offset(line: &Line) -> usize
-    requires { words.is_entry (lines_of.content line.now) ≡ true }
+    requires { words.is_mapping_entry (lines_of.content line.now) ≡ true }
     ensures value { result ≡ words.value_offset line.now }
     ensures within { result ≤ length line.now.text }
 {
@@ -156,7 +156,7 @@ fn value_offset(line: &Line) -> usize
 
 /// Where what follows the spaces behind the colon of an entry begins.
 fn scalar_offset(line: &Line) -> usize
-    requires { words.is_entry (lines_of.content line.now) ≡ true }
+    requires { words.is_mapping_entry (lines_of.content line.now) ≡ true }
     ensures value { result ≡ words.value_offset line.now + lines_of.spaces (drop (words.value_offset line.now) line.now.text) }
     ensures within { result ≤ length line.now.text }
     ensures utf8 { lines_of.IsText (drop result line.now.text) }
@@ -174,7 +174,7 @@ fn value_at<'l>(
     line: &Line,
     lines: &'l [Line],
 ) -> Result<(Node, &'l [Line]), YamlFault>
-    requires { words.is_entry (lines_of.content line.now) ≡ true }
+    requires { words.is_mapping_entry (lines_of.content line.now) ≡ true }
     ensures { Reads (λ x. (x.0, x.1.now)) result (words.value_at (λ deeper. words.pairs_at turns deeper []) turns line.now lines.now) }
 {
     let offset = value_offset(line);
@@ -193,7 +193,7 @@ fn below<'l>(
     line: &Line,
     lines: &'l [Line],
 ) -> Result<(Node, &'l [Line]), YamlFault>
-    requires { words.is_entry (lines_of.content line.now) ≡ true }
+    requires { words.is_mapping_entry (lines_of.content line.now) ≡ true }
     ensures { Reads (λ x. (x.0, x.1.now)) result (words.below (λ deeper. words.pairs_at turns deeper []) turns line.now lines.now) }
 {
     let Some((next, _)) = lines.split_first() else {

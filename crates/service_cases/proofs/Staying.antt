@@ -12,7 +12,7 @@ use Rattle.ps_store.specs.declared.fixed.Fixed.{Fixed}
 use Rattle.ps_store.specs.declared.stores.Checkpoint.{Checkpoint}
 use Rattle.ps_store.specs.declared.stores.Store.{Store}
 use Rattle.ps_store.specs.declared.stores.Wrote.{Wrote}
-use Rattle.ps_store.specs.Stores.{StoreStandsFor, Feeds, Writes, Commits}
+use Rattle.ps_store.specs.Stores.{StoreStandsFor, Feeds, WritesRun, Commits}
 use Rattle.service_cases.specs.Standing.{IsStore}
 
 module _ (fixed : Fixed) (history : List Event) (old : Store) (serves : StoreStandsFor fixed old history) where
@@ -26,7 +26,7 @@ module _ (fixed : Fixed) (history : List Event) (old : Store) (serves : StoreSta
   feeds_stay t store (Err (feeding.PositionFull head)) feeds = absurd feeds
   feeds_stay t store (Err feeding.Memory) feeds = stays store history feeds.2
 
-  pub writes_stay : (store : Store) (result : Result Wrote WriteFault) → Writes fixed history 1000000 store result → IsStore store
+  pub writes_stay : (store : Store) (result : Result Wrote WriteFault) → WritesRun fixed history 1000000 store result → IsStore store
   writes_stay store (Ok wrote) writes = stays store (history ++ Write wrote.changes ∷ []) writes.4
   writes_stay store (Err fault) writes = stays store history writes.1
 

@@ -3,10 +3,10 @@
 use crate::texts::Texts;
 use case_stores::rules_of;
 use case_words::{Stop, cut, short_number_in};
-use ps_bucket_eval::{PlaceFault, Placed, entries_of_row, entries_stand_where_conditions_hold};
+use ps_bucket_eval::{PlaceFault, Placed, entries_of_row};
 use ps_changes::read_change;
 use ps_data::{Items, Memory, Text, Value};
-use ps_definitions::{Rules, bucket_name, names_are_distinct};
+use ps_definitions::{Rules, bucket_name};
 use ps_rows::{Change, Row};
 use ps_values::{read_json, value_of_json};
 use std::alloc::{AllocError, Global};
@@ -172,8 +172,8 @@ where
 
 /// Whether refusals of memory are said as such. Calls the laws, which do nothing.
 pub fn write_memory(out: &mut String) -> Result<(), Stop> {
-    names_are_distinct();
-    entries_stand_where_conditions_hold();
+    ps_definitions::laws::names_are_distinct();
+    ps_bucket_eval::laws::entries_stand_where_conditions_hold();
     let (memory, alloc) = (is_memory(Memory), is_memory(AllocError));
     Ok(write!(out, "{memory} {alloc}")?)
 }

@@ -10,7 +10,7 @@ use ps_bucket_log::Op;
 use ps_data::{Memory, OpId, Text};
 use ps_definitions::Rules;
 use ps_files::write_changes;
-use ps_store::{Store, latest_rows_are_due, readers_hold_what_stands};
+use ps_store::Store;
 use std::alloc::Global;
 
 /// A store that a change file was written into.
@@ -92,8 +92,8 @@ pub fn write_at_once(
     words: &str,
     out: &mut String,
 ) -> Result<(), Stop> {
-    readers_hold_what_stands();
-    latest_rows_are_due();
+    ps_store::laws::readers_hold_what_stands();
+    ps_store::laws::latest_rows_are_due();
     let (rules, words) = cut(words);
     let (changes, name) = cut(words);
     let rules = rules_of(alloc, texts.text(rules)?)?;

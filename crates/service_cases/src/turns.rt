@@ -12,14 +12,14 @@ use ps_lines::Line;
 use ps_session::{Session, StreamRequest};
 use ps_sql_eval::Asker;
 use ps_store::Store;
-use ps_streams::{calls_make_turns, take_turn_of};
+use ps_streams::take_turn_of;
 use std::alloc::Global;
 
 /// The session of an asker who holds nothing.
 pub fn begin(alloc: Global, asker: Asker) -> Session
     ensures { (store : StoreSeen) → IsServing store → IsOver store result.asker (state_of result) }
 {
-    calls_make_turns();
+    ps_streams::laws::calls_make_turns();
     Session::begin(
         alloc,
         StreamRequest {

@@ -7,7 +7,7 @@ ghost use Rattle.ps_client_log.specs.Edits.{CanTake};
 
 use crate::shared::put;
 use case_words::number_in;
-use ps_bucket_log::{Op, rising_ids_rise_on};
+use ps_bucket_log::Op;
 use ps_client_log::{ClientLog, SureKeeper};
 use ps_data::{Memory, Text};
 use std::alloc::Global;
@@ -21,7 +21,7 @@ fn puts(alloc: Global, after: u64, first: u64) -> Result<Vec<Op>, Memory>
 {
     let mut ops = Vec::new(alloc);
     'ops: for before in 0..1000 {
-        rising_ids_rise_on();
+        ps_bucket_log::laws::rising_ids_rise_on();
         ops.push(put(alloc, after + before + 1, first.wrapping_add(before))?)?;
     }
     Ok(ops)

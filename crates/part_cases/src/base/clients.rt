@@ -9,10 +9,7 @@ ghost use Rattle.ps_client_log.specs.Edits.{CanTake, CanMakeAll};
 use case_words::{Stop, number_in};
 use ps_bucket_log::{Key, Op};
 use ps_checksum::Sum;
-use ps_client_log::{
-    ClientLog, Edit, KeepFault, Keeper, MemoryKeeper, Shown, SureKeeper, Target,
-    edits_leave_what_is_sound,
-};
+use ps_client_log::{ClientLog, Edit, KeepFault, Keeper, MemoryKeeper, Shown, SureKeeper, Target};
 use ps_data::{Items, Memory, OpId, Text};
 use std::alloc::Global;
 
@@ -297,7 +294,7 @@ fn row(alloc: Global) -> Result<Items<Shown>, Memory>
 fn edits(alloc: Global) -> Result<Vec<Edit>, Memory>
     ensures { IfOk result (λ edits. (kept : Kept) → IsSound kept → CanMakeAll kept edits.items) }
 {
-    edits_leave_what_is_sound();
+    ps_client_log::laws::edits_leave_what_is_sound();
     let bucket = Text::from_str(alloc, "b")?;
     let rows = row(alloc)?;
     let target = Target::Number(7);

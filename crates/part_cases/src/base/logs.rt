@@ -6,13 +6,7 @@ ghost use Rattle.ps_bucket_log.specs.Logs.{IsLog};
 
 use case_words::{Stop, cut, number_in, size_in};
 use ps_bucket_log::uncounted::{count_upto, newest_upto, read, sum_upto};
-use ps_bucket_log::{
-    Batch, BucketLog, Key, Log, Op, batches_are_the_log, batches_keep_readers_honest,
-    honest_readers_stay_honest, readers_are_whole_at_the_newest, readers_need_no_targets,
-    readers_stand_at_the_last_id, rising_ids_rise_on,
-    standing_logs_have_the_sums_of_their_originals, standing_logs_stay_standing, the_last_decides,
-    totals_are_sums, what_is_written_later_adds_nothing,
-};
+use ps_bucket_log::{Batch, BucketLog, Key, Log, Op};
 use ps_checksum::Sum;
 use ps_data::{Items, OpId, Text};
 use std::alloc::Global;
@@ -176,16 +170,16 @@ pub fn write_copies(alloc: Global, ids: &str, out: &mut String) -> Result<(), St
 
 /// Calls the laws, which do nothing.
 pub fn call_laws() {
-    the_last_decides();
-    batches_keep_readers_honest();
-    readers_are_whole_at_the_newest();
-    honest_readers_stay_honest();
-    standing_logs_stay_standing();
-    standing_logs_have_the_sums_of_their_originals();
-    totals_are_sums();
-    batches_are_the_log();
-    what_is_written_later_adds_nothing();
-    readers_stand_at_the_last_id();
-    readers_need_no_targets();
-    rising_ids_rise_on();
+    ps_bucket_log::laws::the_last_decides();
+    ps_bucket_log::laws::batches_keep_readers_honest();
+    ps_bucket_log::laws::readers_are_whole_at_the_newest();
+    ps_bucket_log::laws::honest_readers_stay_honest();
+    ps_bucket_log::laws::standing_logs_stay_standing();
+    ps_bucket_log::laws::standing_logs_have_the_sums_of_their_originals();
+    ps_bucket_log::laws::totals_are_sums();
+    ps_bucket_log::laws::batches_are_the_log();
+    ps_bucket_log::laws::what_is_written_later_adds_nothing();
+    ps_bucket_log::laws::readers_stand_at_the_last_id();
+    ps_bucket_log::laws::readers_need_no_targets();
+    ps_bucket_log::laws::rising_ids_rise_on();
 }

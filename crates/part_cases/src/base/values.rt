@@ -3,12 +3,7 @@
 use crate::base::words::bytes;
 use case_words::{Stop, cut, signed_number_in};
 use ps_data::{Boxed, Column, Items, Text, TextFault, Truth, Value};
-use ps_values::{
-    ValueFault, compare, compare_is_a_total_order, decimal, decimals_read_back, document,
-    equal_sql, equal_where_both_are_present, json_of_value, object_of_columns, plain, plain_json,
-    plain_json_has_no_float, quoted, read_decimal, read_json, text_of_json, truth_of,
-    value_of_json,
-};
+use ps_values::{ValueFault, compare, decimal, document, equal_sql, json_of_value, object_of_columns, plain, plain_json, quoted, read_decimal, read_json, text_of_json, truth_of, value_of_json};
 use serde_json::Value as Json;
 use std::alloc::Global;
 use std::cmp::Ordering;
@@ -185,8 +180,8 @@ pub fn write_boxed(alloc: Global, text: &str, out: &mut String) -> Result<(), St
 
 /// Calls the laws, which do nothing.
 pub fn call_laws() {
-    decimals_read_back();
-    plain_json_has_no_float();
-    compare_is_a_total_order();
-    equal_where_both_are_present();
+    ps_values::laws::decimals_read_back();
+    ps_values::laws::plain_json_has_no_float();
+    ps_values::laws::compare_is_a_total_order();
+    ps_values::laws::equal_where_both_are_present();
 }

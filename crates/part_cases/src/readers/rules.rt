@@ -1,10 +1,7 @@
 use crate::readers::expressions::show;
 use crate::readers::rules_faults::show_fault;
 use ps_data::Memory;
-use ps_definitions::{
-    Branch, Definition, Match, Planned, Rules, Warning, WarningKind,
-    conditions_hold_where_a_branch_is_met, null_is_not_allowed, spread_as_written,
-};
+use ps_definitions::{Branch, Definition, Match, Planned, Rules, Warning, WarningKind};
 use ps_queries::same_for_every_bucket;
 use ps_rules::{RulesFault, read_rules};
 use std::alloc::{AllocError, Global};
@@ -157,9 +154,9 @@ fn show_match(out: &mut String, one: &Match) -> Result<(), AllocError> {
 
 /// Calls the laws of branches, and that of what has no parameter.
 pub fn laws(alloc: Global) -> Result<String, Memory> {
-    spread_as_written();
-    conditions_hold_where_a_branch_is_met();
-    null_is_not_allowed();
+    ps_definitions::laws::spread_as_written();
+    ps_definitions::laws::conditions_hold_where_a_branch_is_met();
+    ps_definitions::laws::null_is_not_allowed();
     same_for_every_bucket();
     Ok(String::from_str(alloc, "called")?)
 }

@@ -6,7 +6,7 @@ ghost use Rattle.std.specs.List.{AllByRecursion};
 ghost use Rattle.std.specs.Cmp.Lexicographic.{slice_cmp};
 ghost use Rattle.std.specs.Ordering.{nat_cmp};
 ghost use Rattle.std.specs.declared.cmp.Ordering.TheVariants.{Less};
-ghost use Rattle.ps_session.specs.Takes.{NamesRise, name_of};
+ghost use Rattle.ps_session.specs.Takes.{NamesRise, taken_name};
 ghost use Rattle.part_cases.specs.Rising.{RiseOn};
 
 use ps_bucket_log::TakenBucket;
@@ -14,7 +14,7 @@ use ps_data::Text;
 
 // Whether a name is below those of all.
 fn is_below_all(name: &Text, buckets: &[TakenBucket]) -> bool
-    ensures { OnTrue result (AllByRecursion (λ other. slice_cmp nat_cmp name.now other ≡ Less) (map name_of buckets.now)) }
+    ensures { OnTrue result (AllByRecursion (λ other. slice_cmp nat_cmp name.now other ≡ Less) (map taken_name buckets.now)) }
 {
     match buckets {
         [] => true,

@@ -1,5 +1,5 @@
 use Rattle.std.proofs.Common.{◌≡◌, ◌+◌, ◌∙◌, Some}
-use Rattle.ps_doors.specs.Connections.{connection_of, fresh, IsFresh}
+use Rattle.ps_doors.specs.Connections.{connection_of, fresh_connection, IsFresh}
 use Rattle.outside_tests.proofs.Closing.{echoed_one}
 use Rattle.outside_tests.proofs.echoes.echo_one.Goals as goal
 

@@ -2,7 +2,7 @@ use Rattle.std.proofs.Common.{◌≡◌, true, [], List, ℕ, map, arith, ap, sy
 use Rattle.std.specs.Prelude.{IfOk, if◌then◌else◌}
 use Rattle.ps_definitions.specs.declared.matches.Match.{Match}
 use Rattle.ps_bucket_eval.specs.Shown.{alone}
-use Rattle.ps_bucket_eval.specs.Solving.{Fits, allowed, all_hold, names_from, branch_names}
+use Rattle.ps_bucket_eval.specs.Solving.{FitsRoom, allowed, all_hold, names_from, branch_names}
 use Rattle.ps_bucket_eval.proofs.placing.name_branch.Goals as goal
 
 pub returns : goal.returns
@@ -19,4 +19,4 @@ returns c =
     let same : names_from definition [] c.as_slice-3.result.now ≡ branch_names given definition names branch =
     ap (names_from definition []) lists
     ∙ ap (λ b. if b then names_from definition [] (map (allowed given branch.matches) names) else []) (sym hold) in
-    subst (λ (ns : List (List ℕ)). IfOk c.name_lists.result (Fits c.args.room c.args.found.now.keys c.name_lists.new.found.keys ns)) same c.name_lists.ensures
+    subst (λ (ns : List (List ℕ)). IfOk c.name_lists.result (FitsRoom c.args.room c.args.found.now.keys c.name_lists.new.found.keys ns)) same c.name_lists.ensures

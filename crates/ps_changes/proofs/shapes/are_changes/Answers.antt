@@ -3,7 +3,7 @@ use Rattle.std.specs.declared.alloc.Global.{Global}
 use Rattle.std.proofs.lemmas.List.{at_drop_all}
 use Rattle.json.specs.Value.{items_view}
 use Rattle.json.specs.declared.value.Value.{Value as Borrowed}
-use Rattle.ps_changes.specs.Borrowed.{seen, items_in}
+use Rattle.ps_changes.specs.Borrowed.{borrowed_data, items_in}
 use Rattle.ps_changes.specs.Shapes.{is_change, are_changes}
 use Rattle.ps_changes.proofs.Loops.{each_next}
 use Rattle.ps_changes.proofs.shapes.are_changes.Goals as goal
@@ -12,7 +12,7 @@ abbrev All : List (Borrowed Global) → Bool
 All xs = are_changes (items_in (items_view xs))
 
 abbrev test : Borrowed Global → Bool
-test x = is_change (seen x)
+test x = is_change (borrowed_data x)
 
 pub changes-preserved : goal.changes-preserved
 changes-preserved c =

@@ -4,7 +4,7 @@ use Rattle.std.proofs.lemmas.List.{take_all}
 use Rattle.std.proofs.lemmas.List.Elements.{All-more}
 use Rattle.serde_json.specs.Data.{object}
 use Rattle.serde_json.proofs.Views.{view-Object}
-use Rattle.ps_changes.specs.Writing.{members_of, ReadsBack}
+use Rattle.ps_changes.specs.Writing.{column_members, ReadsBack}
 use Rattle.ps_changes.proofs.Written.{column_more, row_spelled}
 use Rattle.ps_changes.proofs.writers.row_json.Goals as goal
 
@@ -26,7 +26,7 @@ returns-clause-value c =
     let row = c.args.row.now in
     let past : length row ≤ c.columns.column-index = omega (arith, ap length c.columns-column-items.ensures.value) in
     let all = take_all c.columns.column-index row past in
-    view-Object c.columns.members ∙ ap object (c.columns.invariant.made ∙ ap members_of all)
+    view-Object c.columns.members ∙ ap object (c.columns.invariant.made ∙ ap column_members all)
 
 pub returns-clause-spelled : goal.returns-clause-spelled
 returns-clause-spelled c =

@@ -33,6 +33,6 @@ returns-clause-body g c =
     let positions : c.in_ok-positions.positions ≡ map (known_at now) names = c.in_ok-positions.ensures in
     let buckets : buckets_of c.in_ok-positions.positions ≡ names = ap buckets_of positions ∙ buckets_known now names in (
       subst (IsDistinct bytes_eq) (sym buckets) (names_apart names c.in_ok-names.ensures.in_order),
-      subst (All (λ (known : Known). known.after.0 ≤ greatest)) (sym positions) (positions_sound now names c.target-target.ensures.sound),
+      subst (All (λ (known : Known). known.after.0 ≤ greatest)) (sym positions) (positions_sound now names c.note_kept.ensures.sound),
       c.in_ok-no_parameters.ensures.plain,
     )

@@ -10,7 +10,7 @@ use Rattle.ps_client.proofs.taking.delete_all.Goals as goal
 pub commit-requires : goal.commit-requires
 commit-requires g c =
     subst (CanMakeAll (kept c.args.log.now)) (sym c.in_ok-edits.ensures)
-    (can_delete c.edits_leave_what_is_sound.ensures.one (kept c.args.log.now) c.args.names.items c.target-target.ensures.sound)
+    (can_delete c.edits_leave_what_is_sound.ensures.one (kept c.args.log.now) c.args.names.items c.note_kept.ensures.sound)
 
 pub returns-clause-ok : goal.returns-clause-ok
 returns-clause-ok g c =

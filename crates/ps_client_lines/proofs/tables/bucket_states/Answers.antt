@@ -6,7 +6,7 @@ use Rattle.ps_data.specs.Numbers.{greatest}
 use Rattle.ps_bucket_log.specs.Ops.{same_key}
 use Rattle.ps_client_log.specs.declared.states.BucketState.{BucketState}
 use Rattle.ps_client_lines.specs.declared.lines.BucketLine.{BucketLine}
-use Rattle.ps_client_lines.specs.Rows.{Row, bucket_row, line_of, entry_row, held_rows}
+use Rattle.ps_client_lines.specs.Rows.{Row, bucket_row, line_of_bucket, entry_row, held_rows}
 use Rattle.ps_client_lines.specs.Refusing.{IsLoneEntryRow, HasOther, HasTwins, BeginsApart}
 use Rattle.std.proofs.lemmas.List.{append-nil, nil_from_length}
 use Rattle.std.proofs.lemmas.Result.{err_from_is_err_and}
@@ -31,7 +31,7 @@ lines-preserved c =
     let passed : map (entry_row line.name) held ≡ take (length held) (drop c.lines.start c.args.rows.now) =
     c.in_ok-held.ensures.rows ∙ ap (take (length held)) c.split_at-parts.ensures.back in
     rw c.in_ok-push.ensures.ok (record {
-      lines = map-append line_of states (state ∷ []) ∙ ap (λ (ls : List BucketLine). ls ++ line ∷ []) c.lines.invariant.lines;
+      lines = map-append line_of_bucket states (state ∷ []) ∙ ap (λ (ls : List BucketLine). ls ++ line ∷ []) c.lines.invariant.lines;
       rows = parts_more held_rows states state c.args.rows.now c.lines.start c.len-start.result c.lines.invariant.rows next;
       within = omega (arith, c.in_ok-held.ensures.within, c.split_at-parts.ensures.back_len, c.len-start.ensures);
       ids = All-push (λ (s : BucketState). All (λ one. one.id.0 ≤ greatest) s.held) states state c.lines.invariant.ids c.in_ok-held.ensures.ids;

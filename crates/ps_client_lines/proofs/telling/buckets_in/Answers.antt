@@ -1,14 +1,14 @@
 use Rattle.std.proofs.Common.{◌≡◌, List, map, sym, ap, subst, inl, inr, refl, ◌∙◌}
-use Rattle.ps_client_lines.specs.Rows.{Row, bucket_row, line_of}
+use Rattle.ps_client_lines.specs.Rows.{Row, bucket_row, line_of_bucket}
 use Rattle.ps_client_lines.proofs.Listing.{map_twice}
-use Rattle.ps_client_lines.specs.Refusing.{BlamesBuckets, HasBadBucket, HasBadEntry, AreInOrder}
+use Rattle.ps_client_lines.specs.Refusing.{BlamesBuckets, HasBadBucket, HasBadEntry, StandInOrder}
 use Rattle.ps_client_lines.proofs.Sound.{sound_buckets}
 use Rattle.ps_client_lines.proofs.Blaming.{blamed}
 use Rattle.ps_client_lines.proofs.telling.buckets_in.Goals as goal
 
 pub returns-in-Ok-bucket_states-clause-buckets : goal.returns-in-Ok-bucket_states-clause-buckets
 returns-in-Ok-bucket_states-clause-buckets c =
-    map_twice line_of bucket_row c.in-Ok-bucket_states.states ∙ ap (map bucket_row) c.in-Ok-bucket_states.ensures.lines ∙ c.in-Ok.ensures.rows ∙ c.as_slice.ensures
+    map_twice line_of_bucket bucket_row c.in-Ok-bucket_states.states ∙ ap (map bucket_row) c.in-Ok-bucket_states.ensures.lines ∙ c.in-Ok.ensures.rows ∙ c.as_slice.ensures
 
 pub returns-in-Ok-bucket_states-clause-sound : goal.returns-in-Ok-bucket_states-clause-sound
 returns-in-Ok-bucket_states-clause-sound c =
@@ -29,6 +29,6 @@ returns-in-Err-bucket_states-clause-blames c =
       refl,
       (lines, buckets),
       λ names order.
-          let has_one = has c.in-Ok.ensures.names (subst (λ (rows : List Row). AreInOrder rows) (sym buckets) names) (subst (λ (rows : List Row). AreInOrder rows) (sym c.as_slice-2.ensures) order) in
+          let has_one = has c.in-Ok.ensures.names (subst (λ (rows : List Row). StandInOrder rows) (sym buckets) names) (subst (λ (rows : List Row). StandInOrder rows) (sym c.as_slice-2.ensures) order) in
           subst (λ (rows : List Row). HasBadEntry rows c.args.rows.now.entries) buckets (subst (λ (rows : List Row). HasBadEntry (map bucket_row lines) rows) c.as_slice-2.ensures has_one),
     )) tt

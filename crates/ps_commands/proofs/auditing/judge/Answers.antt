@@ -1,7 +1,7 @@
 use Rattle.std.proofs.Common.{◌≡◌, Err, ap, ◌∙◌, subst}
 use Rattle.ps_audit.specs.Honest.{PassesHonest}
 use Rattle.ps_audit.specs.Judging.{texts, IsVerdict}
-use Rattle.ps_audit.specs.Meaning.{Means}
+use Rattle.ps_audit.specs.Meaning.{VerdictMeans}
 use Rattle.ps_audit.specs.Positions.{Case, case_for}
 use Rattle.ps_files.specs.declared.faults.Limit.TheVariants.{Entries}
 use Rattle.ps_commands.specs.Auditing.{stream_lines}
@@ -14,7 +14,7 @@ returns-in-Ok c =
     record {
       narrow = c.in-Ok.ensures.wide;
       is = subst (λ lines. IsVerdict case lines c.in-Ok.verdict) same c.in-Ok.ensures.verdict;
-      means = subst (λ lines. Means c.in-Ok.verdict case lines) same c.in-Ok.ensures.means;
+      means = subst (λ lines. VerdictMeans c.in-Ok.verdict case lines) same c.in-Ok.ensures.means;
       honest = subst (λ lines. PassesHonest lines case c.args.rules.now c.in-Ok.verdict) same c.in-Ok.ensures.honest;
     }
 

@@ -2,7 +2,7 @@
 use Rattle.std.proofs.Common.{rules, ◌≡◌, ℕ, Option, Some}
 use Rattle.ps_io.specs.Contents.{Contents}
 use Rattle.ps_commands.specs.Causes.{Outside}
-use Rattle.ps_commands.specs.Commands.{check, rows, replay, compact, token, generate, generate_lines, audit, command_of, name_of}
+use Rattle.ps_commands.specs.Commands.{check, rows, replay, compact, token, generate, generate_lines, audit, command_of, file_name}
 use Rattle.ps_commands.proofs.plain.command.Goals as goal
 
 pub returns-in-Check-clause-outcome : goal.returns-in-Check-clause-outcome
@@ -17,7 +17,7 @@ returns-in-Rows-clause-outcome g c =
 
 pub returns-in-Replay-clause-outcome : goal.returns-in-Replay-clause-outcome
 returns-in-Replay-clause-outcome g c =
-    let is : command_of c.args.words.now ≡ Some (replay (record { rules = c.in-Replay.rules.now; next = name_of c.in-Replay.next; changes = c.in-Replay.changes.now; script = c.in-Replay.script.now })) = search rules in
+    let is : command_of c.args.words.now ≡ Some (replay (record { rules = c.in-Replay.rules.now; next = file_name c.in-Replay.next; changes = c.in-Replay.changes.now; script = c.in-Replay.script.now })) = search rules in
     let o : Outside = record {
       held = g.F.Files.held c.args.files.now;
       read_before = g.F.Files.faults c.args.files.now;

@@ -4,7 +4,7 @@ use Rattle.std.proofs.lemmas.Result.{err_from_is_err_and}
 use Rattle.ps_io.specs.Contents.{Contents}
 use Rattle.ps_files.specs.Loading.{FindsRules, IsRulesFault}
 use Rattle.ps_commands.specs.Causes.{Outside, reading}
-use Rattle.ps_commands.specs.Commands.{Scripting, name_of, for_rules}
+use Rattle.ps_commands.specs.Commands.{Scripting, file_name, for_rules}
 use Rattle.ps_commands.specs.Replaying.{Game}
 use Rattle.ps_commands.specs.Replays.{Output}
 use Rattle.ps_commands.proofs.Causes.{cause_of, rules_refused, rules_read}
@@ -17,7 +17,7 @@ pub returns-in_err-rules-clause-outcome : goal.returns-in_err-rules-clause-outco
 returns-in_err-rules-clause-outcome g c =
     let p = err_from_is_err_and c.from_residual.result c.from_residual.ensures.1 in
     rw (p.1, p.2) (λ words is.
-    let names : Scripting = record { rules = c.args.rules.now; next = name_of c.args.next; changes = c.args.changes.now; script = c.args.script.now } in
+    let names : Scripting = record { rules = c.args.rules.now; next = file_name c.args.next; changes = c.args.changes.now; script = c.args.script.now } in
     let held : Option Contents = g.F.Files.held c.args.files.now in
     let start : ℕ = g.F.Files.faults c.args.files.now in
     let o : Outside = reading held start (g.F.Files.faults c.load_rules.new.files) (g.K.Sink.taken c.args.out.now) (g.K.Sink.faults c.args.out.now) in
@@ -28,7 +28,7 @@ pub returns-in_err-next-clause-outcome : goal.returns-in_err-next-clause-outcome
 returns-in_err-next-clause-outcome g c =
     let p = err_from_is_err_and c.from_residual-in_err-next.result c.from_residual-in_err-next.ensures.1 in
     rw (p.1, p.2) (λ words is.
-    let names : Scripting = record { rules = c.args.rules.now; next = name_of c.args.next; changes = c.args.changes.now; script = c.args.script.now } in
+    let names : Scripting = record { rules = c.args.rules.now; next = file_name c.args.next; changes = c.args.changes.now; script = c.args.script.now } in
     let held : Option Contents = g.F.Files.held c.args.files.now in
     let start : ℕ = g.F.Files.faults c.args.files.now in
     let o : Outside = reading held start (g.F.Files.faults c.load_next_if.new.files) (g.K.Sink.taken c.args.out.now) (g.K.Sink.faults c.args.out.now) in
@@ -41,7 +41,7 @@ pub returns-in_err-transactions-clause-outcome : goal.returns-in_err-transaction
 returns-in_err-transactions-clause-outcome g c =
     let p = err_from_is_err_and c.from_residual-in_err-transactions.result c.from_residual-in_err-transactions.ensures.1 in
     rw (p.1, p.2) (λ words is.
-    let names : Scripting = record { rules = c.args.rules.now; next = name_of c.args.next; changes = c.args.changes.now; script = c.args.script.now } in
+    let names : Scripting = record { rules = c.args.rules.now; next = file_name c.args.next; changes = c.args.changes.now; script = c.args.script.now } in
     let held : Option Contents = g.F.Files.held c.args.files.now in
     let start : ℕ = g.F.Files.faults c.args.files.now in
     let o : Outside = reading held start (g.F.Files.faults c.load_transactions.new.files) (g.K.Sink.taken c.args.out.now) (g.K.Sink.faults c.args.out.now) in
@@ -60,7 +60,7 @@ pub returns-in_err-script-clause-outcome : goal.returns-in_err-script-clause-out
 returns-in_err-script-clause-outcome g c =
     let p = err_from_is_err_and c.from_residual-in_err-script.result c.from_residual-in_err-script.ensures.1 in
     rw (p.1, p.2) (λ words is.
-    let names : Scripting = record { rules = c.args.rules.now; next = name_of c.args.next; changes = c.args.changes.now; script = c.args.script.now } in
+    let names : Scripting = record { rules = c.args.rules.now; next = file_name c.args.next; changes = c.args.changes.now; script = c.args.script.now } in
     let held : Option Contents = g.F.Files.held c.args.files.now in
     let start : ℕ = g.F.Files.faults c.args.files.now in
     let o : Outside = reading held start (g.F.Files.faults c.load.new.files) (g.K.Sink.taken c.args.out.now) (g.K.Sink.faults c.args.out.now) in
@@ -86,7 +86,7 @@ play-requires-clause-low g c = c.in_ok-transactions.ensures.loads.2.low
 
 pub returns-clause-outcome : goal.returns-clause-outcome
 returns-clause-outcome g c = λ words is.
-    let names : Scripting = record { rules = c.args.rules.now; next = name_of c.args.next; changes = c.args.changes.now; script = c.args.script.now } in
+    let names : Scripting = record { rules = c.args.rules.now; next = file_name c.args.next; changes = c.args.changes.now; script = c.args.script.now } in
     let held : Option Contents = g.F.Files.held c.args.files.now in
     let start : ℕ = g.F.Files.faults c.args.files.now in
     let o : Outside = record { held = held; read_before = start; read_now = g.F.Files.faults c.load.new.files; taken_before = g.K.Sink.taken c.args.out.now; taken_now = g.K.Sink.taken c.play.new.out; write_before = g.K.Sink.faults c.args.out.now; write_now = g.K.Sink.faults c.play.new.out } in

@@ -8,7 +8,7 @@ use Rattle.ps_script.specs.declared.events.ScriptEvent.TheVariants as events
 use Rattle.ps_core.specs.declared.effects.Effect.TheVariants as effects
 use Rattle.ps_core.specs.Parts.{CameTo}
 use Rattle.ps_core.specs.Writing.{NextIs}
-use Rattle.ps_core.proofs.Written.{is_want, next_of, pops, queue_empty, tables_of, upload_closed, upload_full, uploaded_so}
+use Rattle.ps_core.proofs.Written.{is_out_of_memory, next_of, pops, queue_empty, tables_of, upload_closed, upload_full, uploaded_so}
 use Rattle.ps_core.proofs.writing.upload.Goals as goal
 
 pub returns-in-None : goal.returns-in-None
@@ -37,7 +37,7 @@ returns-in-Err-PositionFull c = λ fixed play name it.
 pub want-requires : goal.want-requires
 want-requires c =
     let n = next_of (state c.args.reader.now.client).kept.queue c.in-Some.changes (subst (NextIs (state c.args.reader.now.client).kept.queue) c.in-Some.is c.in_ok-next_upload.ensures) in
-    is_want c.in-Err.fault (pops (state c.args.reader.now.client).kept.queue n.change n.rest (Err c.in-Err.fault) n.queue_is c.in-Err.ensures.fault) c.in-Err.ensures.failed
+    is_out_of_memory c.in-Err.fault (pops (state c.args.reader.now.client).kept.queue n.change n.rest (Err c.in-Err.fault) n.queue_is c.in-Err.ensures.fault) c.in-Err.ensures.failed
 
 pub returns-in-Ok-uploaded : goal.returns-in-Ok-uploaded
 returns-in-Ok-uploaded c = λ fixed play name it.

@@ -1,7 +1,7 @@
 use Rattle.std.proofs.Common.{rules, ◌≡◌, ◌++◌, List, true, sym, ap, ◌∙◌, map}
 use Rattle.ps_queries.specs.declared.expressions.Expr.{Expr}
 use Rattle.ps_definitions.specs.declared.branches.Branch.{Branch}
-use Rattle.ps_definitions.specs.Branches.{joined, crossed, branches_in, leaf_branch}
+use Rattle.ps_definitions.specs.Branches.{joined_branches, crossed, branches_in, leaf_branch}
 use Rattle.ps_definitions.specs.Laws.{is_leaf}
 use Rattle.ps_definitions.proofs.Spreads.{onto_leaf}
 use Rattle.ps_definitions.proofs.Counts.{spread_either, spread_both}
@@ -11,7 +11,7 @@ use Rattle.ps_definitions.proofs.spreading.+spread_onto.Goals as goal
 pub returns-then-is_leaf : goal.returns-then-is_leaf
 returns-then-is_leaf t c =
     let xs = c.args.branches in let e = c.args.expr.now in
-    ok_as c.join_leaf.result (map (λ (b : Branch). joined b (leaf_branch e)) xs) (crossed xs (branches_in e))
+    ok_as c.join_leaf.result (map (λ (b : Branch). joined_branches b (leaf_branch e)) xs) (crossed xs (branches_in e))
     (sym (onto_leaf xs e (sym c.is_leaf.ensures ∙ c.if-is_leaf.true))) c.join_leaf.ensures
 
 pub returns-in_ok-second-in-Two : goal.returns-in_ok-second-in-Two
@@ -41,5 +41,5 @@ unfolding is_leaf
 returns-in_default t c =
     let xs = c.args.branches in let e = c.args.expr.now in
     let leaf : is_leaf e ≡ true = search rules in
-    ok_as c.join_leaf-in_default.result (map (λ (b : Branch). joined b (leaf_branch e)) xs) (crossed xs (branches_in e))
+    ok_as c.join_leaf-in_default.result (map (λ (b : Branch). joined_branches b (leaf_branch e)) xs) (crossed xs (branches_in e))
     (sym (onto_leaf xs e leaf)) c.join_leaf-in_default.ensures

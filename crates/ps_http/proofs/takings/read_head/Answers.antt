@@ -3,7 +3,7 @@ use Rattle.std.proofs.Common.{◌≡◌, [], length, arith, sym, ap, subst, ◌�
 use Rattle.std.proofs.lemmas.List.Elements.{All-nil}
 use Rattle.httparse.specs.Grammar.{HasNoRequest}
 use Rattle.ps_io.specs.Sources.{Gives}
-use Rattle.ps_http.specs.Takings.{is_newline, IsRefused, IsJudged}
+use Rattle.ps_http.specs.Takings.{is_newline, HeadIsRefused, RequestHeadIsJudged}
 use Rattle.ps_http.specs.declared.heads.HeadFault.TheVariants.{CutShort}
 use Rattle.ps_http.proofs.Givings.{Gives-none}
 use Rattle.ps_http.proofs.Ends.{HasNoRequest-blank}
@@ -27,7 +27,7 @@ returns-in-End-clause-answer g c =
     Reads-end (g.S.Source.input c.args.from.now) (g.S.Source.input c.bytes.from) (g.S.Source.input c.next_byte.new.from)
     (g.S.Source.faults c.args.from.now) (g.S.Source.faults c.next_byte.new.from) c.bytes.taken.items c.refusal.result
     (few-so-far c.bytes.taken.items c.bytes.counter c.bytes.invariant.long c.bytes-test.true) c.bytes.invariant.given c.in-End.ensures.next
-    (subst (λ bytes. IsRefused bytes CutShort c.refusal.result) c.as_slice.ensures.value c.refusal.ensures)
+    (subst (λ bytes. HeadIsRefused bytes CutShort c.refusal.result) c.as_slice.ensures.value c.refusal.ensures)
 
 pub returns-in_default-clause-answer : goal.returns-in_default-clause-answer
 returns-in_default-clause-answer g c =
@@ -55,7 +55,7 @@ returns-in-Ok-Some-clause-answer g c =
     (g.S.Source.faults c.args.from.now) (g.S.Source.faults c.next_byte.new.from) c.bytes.taken.items c.push_byte.new.taken.items
     c.as_slice-in-bytes-2.result.now c.in-Byte.byte c.bytes.counter c.in-Ok-Some.head c.bytes.invariant.long c.bytes-test.true
     c.bytes.invariant.given c.in-Byte.ensures.next c.bytes.invariant.none c.in-Ok.ensures c.as_slice-in-bytes-2.ensures.value
-    (subst (λ found. IsJudged c.as_slice-in-bytes-2.result.now (Ok found)) c.in-Ok-Some.field-0-is c.in-Ok-Some.ensures)
+    (subst (λ found. RequestHeadIsJudged c.as_slice-in-bytes-2.result.now (Ok found)) c.in-Ok-Some.field-0-is c.in-Ok-Some.ensures)
 
 pub returns-in-Err-clause-answer : goal.returns-in-Err-clause-answer
 returns-in-Err-clause-answer g c =
@@ -69,7 +69,7 @@ bytes-preserved g c = record {
   given = Gives-pushed (g.S.Source.input c.args.from.now) (g.S.Source.input c.bytes.from) (g.S.Source.input c.next_byte.new.from) c.bytes.taken.items
       c.push_byte.new.taken.items c.in-Byte.byte c.in-Ok.ensures c.bytes.invariant.given c.in-Byte.ensures.next;
   none = none-judged c.push_byte.new.taken.items c.as_slice-in-bytes-2.result.now c.as_slice-in-bytes-2.ensures.value
-      (subst (λ found. IsJudged c.as_slice-in-bytes-2.result.now (Ok found)) c.in-Ok-None.field-0-is c.in-Ok-None.ensures);
+      (subst (λ found. RequestHeadIsJudged c.as_slice-in-bytes-2.result.now (Ok found)) c.in-Ok-None.field-0-is c.in-Ok-None.ensures);
   blank = blank-pushed c.bytes.taken.items c.push_byte.new.taken.items c.in-Byte.byte c.bytes.started c.has_started-started.result c.in-Ok.ensures
       c.has_started-started.ensures c.bytes.invariant.blank;
   long = long-pushed c.bytes.taken.items c.push_byte.new.taken.items c.in-Byte.byte c.bytes.counter c.in-Ok.ensures c.bytes.invariant.long;

@@ -1,6 +1,6 @@
 use Rattle.std.proofs.Common.{◌≡◌, ℕ, ◌+◌, ◌-◌, ◌<◌, List, Option, length, get_or, map, take, sym, ap, ◌∙◌, arith}
 use Rattle.ps_data.specs.declared.columns.Column.{Column}
-use Rattle.ps_params.specs.Notes.{row_at}
+use Rattle.ps_params.specs.Notes.{noted_row}
 use Rattle.ps_params.specs.Kept.{note_of}
 use Rattle.ps_params.specs.Places.{notes_at}
 use Rattle.ps_params.proofs.Finding.{got_mapped}
@@ -19,7 +19,7 @@ places-preserved-in_default c =
     let places = c.args.places.now in
     let notes = map note_of c.args.notes.now in
     let i = length places - 1 - c.places.behind in
-    let stands : List ℕ → Option (List Column) = λ ps. row_at (notes_at notes ps) c.args.table.now c.args.id.now c.args.upto.0 in
+    let stands : List ℕ → Option (List Column) = λ ps. noted_row (notes_at notes ps) c.args.table.now c.args.id.now c.args.upto.0 in
     c.places.invariant ∙ ap stands (up_to places c.places.behind c.places-test.true)
     ∙ place_empty c.args.table.now c.args.id.now c.args.upto.0 notes places i (omega (arith, c.places-test.true))
     (none_mapped note_of c.args.notes.now (get_or places i 0) (sym c.in_default.ensures))
@@ -30,7 +30,7 @@ places-preserved c =
     let places = c.args.places.now in
     let notes = map note_of c.args.notes.now in
     let i = length places - 1 - c.places.behind in
-    let stands : List ℕ → Option (List Column) = λ ps. row_at (notes_at notes ps) c.args.table.now c.args.id.now c.args.upto.0 in
+    let stands : List ℕ → Option (List Column) = λ ps. noted_row (notes_at notes ps) c.args.table.now c.args.id.now c.args.upto.0 in
     c.places.invariant ∙ ap stands (up_to places c.places.behind c.places-test.true)
     ∙ place_passed c.args.table.now c.args.id.now c.args.upto.0 notes places i (omega (arith, c.places-test.true)) (note_of c.in-Some.note.now)
     (got_mapped note_of c.args.notes.now (get_or places i 0) c.in-Some.note.now (sym c.in-Some.ensures))
@@ -42,7 +42,7 @@ returns-then-counts c =
     let places = c.args.places.now in
     let notes = map note_of c.args.notes.now in
     let i = length places - 1 - c.places.behind in
-    let stands : List ℕ → Option (List Column) = λ ps. row_at (notes_at notes ps) c.args.table.now c.args.id.now c.args.upto.0 in
+    let stands : List ℕ → Option (List Column) = λ ps. noted_row (notes_at notes ps) c.args.table.now c.args.id.now c.args.upto.0 in
     c.as_ref.ensures.value
     ∙ sym (c.places.invariant ∙ ap stands (up_to places c.places.behind c.places-test.true)
     ∙ place_found c.args.table.now c.args.id.now c.args.upto.0 notes places i (omega (arith, c.places-test.true)) (note_of c.in-Some.note.now)

@@ -1,5 +1,5 @@
 use Rattle.std.proofs.Common.{ℕ, ◌≤◌, length, ap, arith}
-use Rattle.ps_segments.specs.Segmented.{ops_of, entries_of}
+use Rattle.ps_segments.specs.Segmented.{entry_ops, all_entries}
 use Rattle.ps_segments.proofs.Halving.{counted_within}
 use Rattle.ps_segments.proofs.Cutting.{cut_none, cut_in, run_shorter}
 use Rattle.ps_segments.proofs.runs.cut_past.Goals as goal
@@ -14,7 +14,7 @@ returns-in-Some-clause-cut g c =
 
 pub returns-in-Some-clause-cost : goal.returns-in-Some-clause-cost
 returns-in-Some-clause-cost g c = λ d depth.
-    let n : ℕ = length (ops_of (entries_of c.args.sealed.now c.args.growing.now)) in
-    let small : length c.run_at.result.now ≤ length (ops_of (entries_of c.args.sealed.now c.args.growing.now)) =
+    let n : ℕ = length (entry_ops (all_entries c.args.sealed.now c.args.growing.now)) in
+    let small : length c.run_at.result.now ≤ length (entry_ops (all_entries c.args.sealed.now c.args.growing.now)) =
     omega (arith, ap length c.run_at.ensures, run_shorter c.in-Some.run' c.args.sealed.now c.args.growing.now) in
     omega (arith, counted_within c.run_upto.new.steps c.place_past.new.steps (length c.run_at.result.now) n d c.place_past.ensures.cost small depth, c.in-Some.ensures.cost d depth)

@@ -1,5 +1,5 @@
 use Rattle.std.proofs.Common.{◌-◌, ◌<◌, length, arith}
-use Rattle.ps_segments.specs.Segmented.{ops_of, entries_of, head_id}
+use Rattle.ps_segments.specs.Segmented.{entry_ops, all_entries, head_id}
 use Rattle.ps_segments.proofs.Halving.{counted_within}
 use Rattle.ps_segments.proofs.Cutting.{growing_upto, none_upto, sealed_upto, sealed_fewer}
 use Rattle.ps_segments.proofs.runs.run_upto.Goals as goal
@@ -18,7 +18,7 @@ returns-then-begun-eq0-clause-cost g c = λ d depth.
     omega (
       arith,
       counted_within c.begins_upto.new.steps c.place_past-begun.new.steps (length c.args.sealed.now)
-          (length (ops_of (entries_of c.args.sealed.now c.args.growing.now))) d c.place_past-begun.ensures.cost
+          (length (entry_ops (all_entries c.args.sealed.now c.args.growing.now))) d c.place_past-begun.ensures.cost
           (sealed_fewer c.args.sealed.now c.args.growing.now c.requires.filled) depth,
       c.begins_upto.ensures.counted,
     )
@@ -34,7 +34,7 @@ returns-clause-cost g c = λ d depth.
     omega (
       arith,
       counted_within c.begins_upto.new.steps c.place_past-begun.new.steps (length c.args.sealed.now)
-          (length (ops_of (entries_of c.args.sealed.now c.args.growing.now))) d c.place_past-begun.ensures.cost
+          (length (entry_ops (all_entries c.args.sealed.now c.args.growing.now))) d c.place_past-begun.ensures.cost
           (sealed_fewer c.args.sealed.now c.args.growing.now c.requires.filled) depth,
       c.begins_upto.ensures.counted,
     )

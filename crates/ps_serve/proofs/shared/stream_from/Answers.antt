@@ -13,7 +13,7 @@ use Rattle.ps_serve.specs.declared.refusals.Refusal.{Refusal}
 use Rattle.ps_serve.specs.Answers.{head_text}
 use Rattle.ps_serve.specs.Readers.{seen}
 use Rattle.ps_serve.specs.SharedStreams.{EndsSo, HasBroken, HasStreamed}
-use Rattle.ps_serve.specs.Steps.{Begins, HasBegun}
+use Rattle.ps_serve.specs.Steps.{BeginsAnswer, SessionHasBegun}
 use Rattle.ps_serve.proofs.Ending.{first_broken, first_streamed, refused_so, streams_so}
 use Rattle.ps_serve.proofs.Stepping.{item_is}
 use Rattle.ps_serve.proofs.shared.stream_from.Goals as goal
@@ -26,8 +26,8 @@ returns-in-Err-clause-streams g c = λ positions low later is.
     let asker = c.args.stream.now.session.asker in
     let s = state_of c.args.stream.now.session in
     let s' = state_of c.take_first-reader.new.session in
-    let begun : HasBegun lock before after asker s s' (Err c.in-Err.refusal) =
-    subst (λ (r : Result (Vec ℕ Global) Refusal). HasBegun lock before after asker s s' r) c.in-Err.is c.take_first-reader.ensures.begins in
+    let begun : SessionHasBegun lock before after asker s s' (Err c.in-Err.refusal) =
+    subst (λ (r : Result (Vec ℕ Global) Refusal). SessionHasBegun lock before after asker s s' r) c.in-Err.is c.take_first-reader.ensures.begins in
     let longer = prefix_length (seen before) (seen after) begun.goes_on.saw in
     refused_so (g.C.Clock.may_give c.args.terms.now.clock.now) c.args.terms.now.exp c.places_are_fronts.ensures.whole (fixed_of lock) low (seen after) (omega (arith, later, longer))
     c.args.terms.now.until_drained asker positions (g.K.Sink.taken c.args.to.now) (g.K.Sink.taken c.refuse.new.to) (g.K.Sink.faults c.args.to.now) (g.K.Sink.faults c.refuse.new.to)
@@ -54,11 +54,11 @@ returns-in-Ok-write-clause-streams g c = λ positions low later is.
     let item = c.served_at.result in
     let served = c.note_first.new.served.items in
     let served' = c.stream_on-reader.new.stream.served.items in
-    let begun : HasBegun lock before after asker s s' (Ok bytes) =
-    subst (λ (r : Result (Vec ℕ Global) Refusal). HasBegun lock before after asker s s' r) c.in-Ok.is c.take_first-reader.ensures.begins in
+    let begun : SessionHasBegun lock before after asker s s' (Ok bytes) =
+    subst (λ (r : Result (Vec ℕ Global) Refusal). SessionHasBegun lock before after asker s s' r) c.in-Ok.is c.take_first-reader.ensures.begins in
     let longer = prefix_length (seen before) (seen after) begun.goes_on.saw in
-    let begins : Begins fixed (seen after) asker (begin (requested_in positions)) s' (Ok bytes) =
-    subst (λ (x : SessionState). Begins fixed (seen after) asker x s' (Ok bytes)) is begun.begins in
+    let begins : BeginsAnswer fixed (seen after) asker (begin (requested_in positions)) s' (Ok bytes) =
+    subst (λ (x : SessionState). BeginsAnswer fixed (seen after) asker x s' (Ok bytes)) is begun.begins in
     let here = item_is whole lock after asker item begun.goes_on.at_end c.served_at.ensures.place c.served_at.ensures.checkpoint.0 c.served_at.ensures.checkpoint.1 c.served_at.ensures.completed in
     let gains : Gains old between bytes.items = subst (λ (text : List ℕ). Gains old between text) c.as_slice.ensures.value c.in-Ok-write.ensures.ok in
     let noted : served ≡ item ∷ [] = c.in-Ok-note_first.ensures.ok ∙ ap (λ (xs : List Served). xs ++ item ∷ []) c.requires.none in
@@ -88,11 +88,11 @@ returns-clause-streams g c = λ positions low later is.
     let new = g.K.Sink.taken c.write.new.self in
     let item = c.served_at.result in
     let served = c.note_first.new.served.items in
-    let begun : HasBegun lock before after asker s s' (Ok bytes) =
-    subst (λ (r : Result (Vec ℕ Global) Refusal). HasBegun lock before after asker s s' r) c.in-Ok.is c.take_first-reader.ensures.begins in
+    let begun : SessionHasBegun lock before after asker s s' (Ok bytes) =
+    subst (λ (r : Result (Vec ℕ Global) Refusal). SessionHasBegun lock before after asker s s' r) c.in-Ok.is c.take_first-reader.ensures.begins in
     let longer = prefix_length (seen before) (seen after) begun.goes_on.saw in
-    let begins : Begins fixed (seen after) asker (begin (requested_in positions)) s' (Ok bytes) =
-    subst (λ (x : SessionState). Begins fixed (seen after) asker x s' (Ok bytes)) is begun.begins in
+    let begins : BeginsAnswer fixed (seen after) asker (begin (requested_in positions)) s' (Ok bytes) =
+    subst (λ (x : SessionState). BeginsAnswer fixed (seen after) asker x s' (Ok bytes)) is begun.begins in
     let here = item_is whole lock after asker item begun.goes_on.at_end c.served_at.ensures.place c.served_at.ensures.checkpoint.0 c.served_at.ensures.checkpoint.1 c.served_at.ensures.completed in
     let gains : GainsFront old new bytes.items = subst (λ (text : List ℕ). GainsFront old new text) c.as_slice.ensures.value c.in-Err-write.ensures.err in
     let noted : served ≡ item ∷ [] = c.in-Ok-note_first.ensures.ok ∙ ap (λ (xs : List Served). xs ++ item ∷ []) c.requires.none in

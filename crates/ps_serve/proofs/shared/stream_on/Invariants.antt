@@ -5,14 +5,14 @@ use Rattle.ps_session.specs.declared.phases.Phase.TheVariants.{Start}
 use Rattle.ps_session.specs.Kept.{state_of}
 use Rattle.ps_streams.specs.Turning.{IsUnderWay}
 use Rattle.ps_workers.specs.Sharing.{fixed_of}
-use Rattle.ps_serve.specs.Readers.{GoesOn, seen}
+use Rattle.ps_serve.specs.Readers.{ReaderGoesOn, seen}
 use Rattle.ps_serve.specs.SharedStreams.{HasStreamed}
 use Rattle.ps_serve.proofs.shared.stream_on.Given as goal
 
 -- the session goes on, and all lines of its turns so far were written
 abbrev pub invariant-turns : goal.invariant-turns
 invariant-turns g l = record {
-  goes_on : GoesOn l.desk.lock.now l.fn.reader l.here;
+  goes_on : ReaderGoesOn l.desk.lock.now l.fn.reader l.here;
   begun : (state_of l.stream.session).phase ≢ Start;
   asker : l.stream.session.asker ≡ l.fn.stream.session.asker;
   way : (at : ℕ) × IsUnderWay (course_of (fixed_of l.desk.lock.now).rules (seen l.here) l.fn.stream.session.asker) (length (seen l.here)) at (state_of l.stream.session);

@@ -2,7 +2,7 @@ use Rattle.std.proofs.Common.{◌≡◌, ℕ, ◌+◌, ◌<◌, true, false, get
 use Rattle.std.proofs.lemmas.Grind.{common_steps}
 use Rattle.ps_sql.specs.declared.words.Lexeme.{Lexeme}
 use Rattle.ps_sql.specs.declared.words.Word.{Word}
-use Rattle.ps_sql.specs.Words.{word_at, is_blank}
+use Rattle.ps_sql.specs.Words.{word_at, is_space}
 use Rattle.ps_sql.specs.Lexemes.{AreLexemes, Stops}
 use Rattle.ps_sql.proofs.Cuts.{word_cuts}
 use Rattle.ps_sql.proofs.LexemeLaws.{blank_lexemes, blank_stops, word_lexemes, word_stops, stops_here, all_read}
@@ -13,7 +13,7 @@ words-preserved-then-is_blank_byte c =
     let at = c.words.at in let rest = c.words.rest.now in
     let L : List Lexeme → List ℕ → Type 0 = λ more bytes. AreLexemes (at + 1) bytes more in
     let S : ℕ → List ℕ → Type 0 = λ place bytes. Stops (at + 1) bytes place in
-    let blank : is_blank (get_or rest 0 0) ≡ true = grind (arith, common_steps) in
+    let blank : is_space (get_or rest 0 0) ≡ true = grind (arith, common_steps) in
     record {
       utf8 = search rules;
       place = omega (arith, c.cut.ensures.parts);
@@ -25,7 +25,7 @@ pub returns-in_default : goal.returns-in_default
 returns-in_default c =
     let rest = c.words.rest.now in
     let some : 0 < length rest = grind (arith, common_steps) in
-    let blank : is_blank (get_or rest 0 0) ≡ false = grind (arith, common_steps) in
+    let blank : is_space (get_or rest 0 0) ≡ false = grind (arith, common_steps) in
     c.words.invariant.stops c.words.at (stops_here c.words.at rest some blank (sym c.in_ok-word.ensures ∙ c.in_default.is))
 
 pub cut-requires-in-words : goal.cut-requires-in-words

@@ -3,7 +3,7 @@ use Rattle.std.proofs.lemmas.Grind.{common_steps}
 use Rattle.std.proofs.lemmas.Str.Pattern.{split_parts, strip_prefix_char}
 use Rattle.std.specs.Prelude.{encode_utf8}
 use Rattle.std.specs.String.{string_bytes}
-use Rattle.ps_sql.specs.Words.{behind, quoted}
+use Rattle.ps_sql.specs.Words.{with_front, quoted}
 use Rattle.ps_sql.proofs.Quotes.{quoted_ends, quoted_goes_on, quoted_never}
 use Rattle.ps_sql.proofs.scans.quoted_text.Goals as goal
 
@@ -33,5 +33,5 @@ pieces-preserved c =
     record {
       utf8 = search rules;
       within = omega arith;
-      so_far = on ∙ ap (λ xs. behind xs (length c.args.text.now - length c.in-Some-strip_prefix.more.now) (quoted q c.in-Some-strip_prefix.more.now)) (sym bytes);
+      so_far = on ∙ ap (λ xs. with_front xs (length c.args.text.now - length c.in-Some-strip_prefix.more.now) (quoted q c.in-Some-strip_prefix.more.now)) (sym bytes);
     }

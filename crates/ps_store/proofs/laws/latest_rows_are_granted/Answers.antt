@@ -3,7 +3,7 @@ use Rattle.std.proofs.lemmas.Option.{same_Some}
 use Rattle.std.specs.FinMap.Entries.{find}
 use Rattle.ps_rows.specs.Source.{Key, key_cmp, Version, Source}
 use Rattle.ps_granted.specs.Grants.{granted}
-use Rattle.ps_store.specs.Steps.{lane_ops, source_after, held_of}
+use Rattle.ps_store.specs.Steps.{lane_ops, source_after, holding_of}
 use Rattle.ps_store.proofs.Apart.{moments_tell_rows, in_order}
 use Rattle.ps_store.proofs.Copies.{granted_stands, stands_granted, find_there}
 use Rattle.ps_store.proofs.DueRows.{are_latest}
@@ -26,7 +26,7 @@ returns c = λ mark rules steps asker kept rows are numbers rise sql holds lates
     let key = moments_tell_rows rules.definitions steps (steps_from_rise rules.definitions [] steps rise) e.0 f.0 e.1 f.1 (find_there source e.0 e.1 sorted h) (find_there source f.0 f.1 sorted g) p i in
     same_entry source e f key (find_there source e.0 e.1 sorted h) (find_there source f.0 f.1 sorted g) in
     c.latest_rows_are_unique.ensures (granted rules.definitions asker source) rows (ties_agree rules asker source are tell)
-    (are_latest rules.definitions asker source mark (held_of (lane_ops mark rules.definitions [] steps)) kept rows (c.readers_hold_what_steps_leave.ensures mark rules steps are numbers rise)
+    (are_latest rules.definitions asker source mark (holding_of (lane_ops mark rules.definitions [] steps)) kept rows (c.readers_hold_what_steps_leave.ensures mark rules steps are numbers rise)
     (granted_stands rules asker source are sorted sql same c.names_are_distinct.ensures (λ row. c.entries_stand_where_conditions_hold.ensures.placed rules row are))
     (stands_granted rules asker source are sorted sql same c.names_are_distinct.ensures (λ row. c.entries_stand_where_conditions_hold.ensures.placed rules row are))
     holds latest)

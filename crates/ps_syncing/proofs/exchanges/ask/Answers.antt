@@ -1,7 +1,7 @@
 use Rattle.std.proofs.Common.{◌∙◌, ap, subst, sym}
 use Rattle.ps_io.specs.Contents.{Gains}
 use Rattle.ps_doors.specs.Connections.{with_closed, connection_of}
-use Rattle.ps_syncing.specs.Exchanges.{Answers, ClosesOne, Sees}
+use Rattle.ps_syncing.specs.Exchanges.{AnswersExchange, ClosesOne, Sees}
 use Rattle.ps_syncing.proofs.Closing.{Answers-known, ClosesOne-seen}
 use Rattle.ps_syncing.proofs.exchanges.ask.Goals as goal
 
@@ -13,7 +13,7 @@ returns-in-Ok-clause-answers g c =
     let from = c.take_answer-answer.new.from in
     let to = c.take_answer-answer.new.to in
     let request = c.args.request.now in
-    subst (λ v. Answers (ClosesOne old v request) c.take_answer-answer.result)
+    subst (λ v. AnswersExchange (ClosesOne old v request) c.take_answer-answer.result)
     (sym (c.close.ensures.closed ∙ ap (λ v. with_closed v (connection_of S K from to)) c.in-Ok.ensures.closed))
     (Answers-known (Gains (K.taken c.in-Ok.to) (K.taken to) request) (Sees (S.input c.in-Ok.from) (S.input from) request)
     (ClosesOne old (with_closed old (connection_of S K from to)) request)

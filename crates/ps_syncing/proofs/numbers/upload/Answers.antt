@@ -2,7 +2,7 @@ use Rattle.std.proofs.Common.{Ok, Err, ap, sym, subst, ◌∙◌}
 use Rattle.std.proofs.lemmas.Result.{err_from_is_err_and}
 use Rattle.ps_answers.specs.Numbers.{position_in}
 use Rattle.ps_answers.specs.Requests as requests
-use Rattle.ps_syncing.specs.Exchanges.{Answers, ClosesOne, IsAnswered}
+use Rattle.ps_syncing.specs.Exchanges.{AnswersExchange, ClosesOne, IsAnsweredInFull}
 use Rattle.ps_syncing.proofs.Counting.{Numbers-found}
 use Rattle.ps_syncing.proofs.Failing.{ClosesOne-so, Numbers-failed}
 use Rattle.ps_syncing.proofs.numbers.upload.Goals as goal
@@ -16,7 +16,7 @@ returns-in_err-answer-clause-numbers g c =
     let p = err_from_is_err_and c.from_residual-in_err-answer.result c.from_residual-in_err-answer.ensures.1 in
     rw (p.1, p.2) (Numbers-failed (ClosesOne old new (requests.upload_text service.address service.token c.args.body.now)) position_in c.in_err-answer.field-0.0
     (λ Holds Other so. ClosesOne-so old new (requests.upload_text service.address service.token c.args.body.now) Holds Other so)
-    (subst (λ request. Answers (ClosesOne old new request) (Err c.in_err-answer.field-0.0)) asks c.in_err-answer.ensures.answers))
+    (subst (λ request. AnswersExchange (ClosesOne old new request) (Err c.in_err-answer.field-0.0)) asks c.in_err-answer.ensures.answers))
 
 pub returns-clause-numbers : goal.returns-clause-numbers
 returns-clause-numbers g c =
@@ -24,9 +24,9 @@ returns-clause-numbers g c =
     let new = g.L.Link.closed c.ask.new.link in
     let service = c.args.service.now in
     let asks = c.as_slice.ensures.value ∙ c.in_ok-request.ensures ∙ ap (λ token. requests.upload_text service.address token c.args.body.now) c.as_slice-token.ensures in
-    let known = subst (λ request. Answers (ClosesOne old new request) (Ok c.in_ok-answer.answer)) asks c.in_ok-answer.ensures.answers in
+    let known = subst (λ request. AnswersExchange (ClosesOne old new request) (Ok c.in_ok-answer.answer)) asks c.in_ok-answer.ensures.answers in
     let body = c.part.result.now in
     Numbers-found (ClosesOne old new (requests.upload_text service.address service.token c.args.body.now)) position_in body c.answered_position.result c.found.result
     (λ Holds Other so. ClosesOne-so old new (requests.upload_text service.address service.token c.args.body.now) Holds Other so)
-    (subst (λ part. ClosesOne old new (requests.upload_text service.address service.token c.args.body.now) (λ one. IsAnswered one part)) (sym c.part.ensures) known)
+    (subst (λ part. ClosesOne old new (requests.upload_text service.address service.token c.args.body.now) (λ one. IsAnsweredInFull one part)) (sym c.part.ensures) known)
     c.answered_position.ensures.value c.found.ensures

@@ -1,6 +1,6 @@
 -- Some local writes were uploaded, and the others wait still.
 use Rattle.std.proofs.Common.{◌≡◌, ◌≤◌, length}
-use Rattle.ps_client.specs.States.{keeper_of, name_of, state}
+use Rattle.ps_client.specs.States.{keeper_of, client_name, state}
 use Rattle.ps_syncing.specs.Steps.{UploadsSome}
 use Rattle.ps_syncing.proofs.numbers.upload_all.Given as goal
 
@@ -8,7 +8,7 @@ abbrev pub invariant-uploads : goal.invariant-uploads
 invariant-uploads g l = record {
   some : UploadsSome l.service (state l.fn.client) (state l.client) (g.L.Link.closed l.fn.link) (g.L.Link.closed l.link);
   out : g.L.Link.out l.link ≡ g.L.Link.out l.fn.link;
-  name : name_of l.client ≡ name_of l.fn.client;
+  name : client_name l.client ≡ client_name l.fn.client;
   faults : g.L.Link.faults l.fn.link ≤ g.L.Link.faults l.link;
   kept : g.P.Keeper.faults (keeper_of l.client) ≡ g.P.Keeper.faults (keeper_of l.fn.client);
 }

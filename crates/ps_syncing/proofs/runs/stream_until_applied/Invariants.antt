@@ -1,6 +1,6 @@
 -- All streams so far were refused.
 use Rattle.std.proofs.Common.{◌≡◌, ◌≤◌, List, length}
-use Rattle.ps_client.specs.States.{keeper_of, name_of, state}
+use Rattle.ps_client.specs.States.{keeper_of, client_name, state}
 use Rattle.ps_progress.specs.Meters.{Hears}
 use Rattle.ps_syncing.specs.Exchanges.{Closes, Exchange}
 use Rattle.ps_syncing.specs.Runs.{AreRefused}
@@ -12,7 +12,7 @@ invariant-streams g l = record {
       × AreRefused l.service (state l.fn.client) exchanges (state l.client);
   out : g.L.Link.out l.link ≡ g.L.Link.out l.fn.link;
   heard : Hears l.fn.meter l.meter;
-  name : name_of l.client ≡ name_of l.fn.client;
+  name : client_name l.client ≡ client_name l.fn.client;
   faults : g.L.Link.faults l.fn.link ≤ g.L.Link.faults l.link;
   kept : g.P.Keeper.faults (keeper_of l.client) ≡ g.P.Keeper.faults (keeper_of l.fn.client);
 }

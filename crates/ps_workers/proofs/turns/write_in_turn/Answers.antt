@@ -2,7 +2,7 @@ use Rattle.std.proofs.Common.{ℕ, [], ◌∷◌, ◌++◌, ◌∙◌, sym, subs
 use Rattle.ps_lock.specs.Words.{history_of}
 use Rattle.ps_store.specs.declared.events.Event.TheVariants.{Write}
 use Rattle.ps_workers.specs.Sharing.{terms_of, fixed_of}
-use Rattle.ps_store.specs.Ledgers.{fresh}
+use Rattle.ps_store.specs.Ledgers.{fresh_ledger}
 use Rattle.ps_store.specs.Stores.{StoreStandsFor}
 use Rattle.ps_workers.specs.Gains.{AddsTo}
 use Rattle.ps_workers.proofs.Narrow.{may_write, could_come}
@@ -17,7 +17,7 @@ leave_with-requires g c =
     let written = subst (λ (n : ℕ). StoreStandsFor (fixed_of c.args.lock.now) c.write_batch.new.self (history_of turn ++ Write n ∷ [])) (sym c.from-changes.ensures) said.4 in
     leaves_with c.args.lock.now turn c.value.result.now c.value.ensures.value c.turn-turn.ensures.stands (Write c.from-changes.result) c.write_batch.new.self c.turn-turn.ensures.lock written
     (may_write (terms_of c.args.lock.now) c.value.result.now (history_of turn) (kept c.args.lock.now turn c.value.result.now c.value.ensures.value c.turn-turn.ensures.stands) c.args.limit c.from-changes.result
-    (could_come (history_of turn) (fresh (fixed_of c.args.lock.now).rules) (Write c.from-changes.result) written.legal).1 (c.from-changes.ensures ∙ said.1))
+    (could_come (history_of turn) (fresh_ledger (fixed_of c.args.lock.now).rules) (Write c.from-changes.result) written.legal).1 (c.from-changes.ensures ∙ said.1))
 
 pub leave-requires : goal.leave-requires
 leave-requires g c =

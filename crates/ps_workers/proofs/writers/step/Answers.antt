@@ -4,7 +4,7 @@ use Rattle.ps_workers.specs.declared.stages.NextRules.{NextRules}
 use Rattle.ps_workers.specs.declared.stages.Pace.{Pace}
 use Rattle.ps_workers.specs.declared.stages.Stage.{Stage}
 use Rattle.ps_workers.specs.declared.stages.Stage.TheVariants.{Building}
-use Rattle.ps_workers.specs.Renewing.{IsUnder, IsAt, WhenDue, GoesOn}
+use Rattle.ps_workers.specs.Renewing.{IsUnder, IsAtStage, WhenDue, GoesOn}
 use Rattle.ps_workers.specs.Sharing.{terms_of, fixed_of}
 use Rattle.ps_workers.specs.Writing.{CommitsReached}
 use Rattle.ps_workers.proofs.Renewed.{at_later, due_is}
@@ -51,7 +51,7 @@ returns-in-Building-clause-goes_on g c = λ given at.
     let built = c.build_on.result in
     let said : WhenDue c.args.stage now.2 (Err c.in-Err.stage) = subst (λ (r : Result NextRules Stage). WhenDue c.args.stage now.2 r) c.in-Err.is c.when_due.ensures in
     let so_far = wrote_on fixed given c.args.batch c.args.seat now.0 wrote.0 wrote.1 (c.commit_reached-seat.ensures.commits given c.args.batch).written (c.write_next-seat.ensures.writes given) in
-    let here = subst (λ (s : Stage). IsAt fixed given (seen_by c.args.seat) s) (sym said.0 ∙ c.in-Building.is) at in
+    let here = subst (λ (s : Stage). IsAtStage fixed given (seen_by c.args.seat) s) (sym said.0 ∙ c.in-Building.is) at in
     goes_from fixed given c.args.batch c.args.seat wrote.0 built.0 built.1 built.2 so_far
     (c.build_on.ensures.goes_on given (at_later fixed given (seen_by c.args.seat) (seen_by wrote.0) Building so_far.worked.saw here))
 
@@ -69,4 +69,4 @@ returns-clause-goes_on g c = λ given at.
     let said : WhenDue c.args.stage now.2 (Err c.in-Err.stage) = subst (λ (r : Result NextRules Stage). WhenDue c.args.stage now.2 r) c.in-Err.is c.when_due.ensures in
     let so_far = wrote_on fixed given c.args.batch c.args.seat now.0 wrote.0 wrote.1 (c.commit_reached-seat.ensures.commits given c.args.batch).written (c.write_next-seat.ensures.writes given) in
     subst (λ (p : Pace). GoesOn fixed given c.args.batch c.args.seat wrote.0 c.in-Err.stage p) (sym c.pace_after.ensures)
-    (goes_so fixed given c.args.batch c.args.seat wrote.0 c.in-Err.stage c.in-Ok-after_write.wrote so_far (subst (λ (s : Stage). IsAt fixed given (seen_by c.args.seat) s) (sym said.0) at))
+    (goes_so fixed given c.args.batch c.args.seat wrote.0 c.in-Err.stage c.in-Ok-after_write.wrote so_far (subst (λ (s : Stage). IsAtStage fixed given (seen_by c.args.seat) s) (sym said.0) at))

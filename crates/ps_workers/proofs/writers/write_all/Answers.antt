@@ -2,7 +2,7 @@ use Rattle.std.proofs.Common.{[], sym, subst}
 use Rattle.ps_lock.specs.Words.{seen_by}
 use Rattle.ps_workers.specs.declared.stages.Pace.{Pace}
 use Rattle.ps_workers.specs.declared.stages.Stage.{Stage}
-use Rattle.ps_workers.specs.Renewing.{IsUnder, IsAt, GoesOn}
+use Rattle.ps_workers.specs.Renewing.{IsUnder, IsAtStage, GoesOn}
 use Rattle.ps_workers.specs.Sharing.{terms_of, fixed_of}
 use Rattle.ps_workers.specs.Work.{FeedsAndWrites}
 use Rattle.ps_workers.proofs.Renewed.{at_first, under_first}
@@ -16,7 +16,7 @@ steps-init g c =
     record {
       lock = c.requires.seat;
       under = subst (λ (s : Stage). IsUnder (terms_of lock) s) (sym c.first_stage-stage.ensures) (under_first (terms_of lock) c.args.next c.requires.next);
-      at = subst (λ (s : Stage). IsAt (fixed_of lock) c.args.next (seen_by c.args.seat) s) (sym c.first_stage-stage.ensures) (at_first (fixed_of lock) c.args.next (seen_by c.args.seat));
+      at = subst (λ (s : Stage). IsAtStage (fixed_of lock) c.args.next (seen_by c.args.seat) s) (sym c.first_stage-stage.ensures) (at_first (fixed_of lock) c.args.next (seen_by c.args.seat));
       written = written_none c.args.next c.args.batch c.args.seat;
     }
 

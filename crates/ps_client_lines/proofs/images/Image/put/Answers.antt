@@ -2,7 +2,7 @@ use Rattle.std.proofs.Common.{◌+◌, ◌%◌, ◌^◌, List, map, ap, ◌∙�
 use Rattle.ps_bucket_log.specs.declared.ops.Key.{Key}
 use Rattle.ps_client_log.specs.Kept.{held_sum}
 use Rattle.ps_client_lines.specs.declared.images.Entry.{Entry}
-use Rattle.ps_client_lines.specs.Images.{held_of, left_of}
+use Rattle.ps_client_lines.specs.Images.{held_of, sum_left}
 use Rattle.ps_client_lines.proofs.Sums.{total_put}
 use Rattle.ps_client_lines.proofs.Listed.{held_put}
 use Rattle.ps_client_lines.proofs.images.Image.put.Goals as goal
@@ -14,7 +14,7 @@ returns c =
     let now = c.add-self.result.0 in
     let total =
     ap (λ (es : List (Key × Entry)). (now + held_sum (map held_of es)) % 2 ^ 32) c.in_ok-insert.ensures.entries
-    ∙ total_put old c.args.key c.args.entry c.args.self.now.added.0 left now (c.left_sum-left.ensures ∙ ap left_of c.in_ok-insert.ensures.old) (ap (λ sum. sum.0) c.add-self.ensures) in
+    ∙ total_put old c.args.key c.args.entry c.args.self.now.added.0 left now (c.left_sum-left.ensures ∙ ap sum_left c.in_ok-insert.ensures.old) (ap (λ sum. sum.0) c.add-self.ensures) in
     λ i. record {
       position = c.args.entry.id.0;
       total = total i;

@@ -4,7 +4,7 @@ use Rattle.std.specs.Option.{option_map}
 use Rattle.ps_client_log.specs.declared.edits.Edit.{Edit}
 use Rattle.ps_client_log.specs.Soundness.{IsSound, same_row}
 use Rattle.ps_client_log.specs.Edits.{CanMakeAll, with_edits}
-use Rattle.ps_client_log.specs.Keeping.{Tells}
+use Rattle.ps_client_log.specs.Keeping.{TellsKept}
 use Rattle.ps_client_log.specs.Rooms.{kept_by}
 use Rattle.ps_client_log.proofs.Sound.{tells_after, with_edits-sound}
 use Rattle.ps_client_log.proofs.client_logs.ClientLog.apply.Goals as goal
@@ -21,7 +21,7 @@ invariant_of-self-in-Ok-1 g c =
     let made : now ≡ option_map (λ own. with_edits own edits) told =
     subst (λ (all : List Edit). now ≡ option_map (λ own. with_edits own all) told) c.as_slice-2.ensures.value c.in-Ok.ensures.ok in
     record {
-      tells = subst (Tells now) (sym is) (tells_after told now (kept_by before) edits c.self.invariant.tells made);
+      tells = subst (TellsKept now) (sym is) (tells_after told now (kept_by before) edits c.self.invariant.tells made);
       sound = subst IsSound (sym is) (with_edits-sound edits (kept_by before) c.self.invariant.sound can);
       shown = subst (IsDistinct same_row) (sym c.tidy.ensures.shown)
           (c.make_all.ensures.shown (subst (IsDistinct same_row) (sym c.in_ok-rooms.ensures.shown) c.self.invariant.shown));

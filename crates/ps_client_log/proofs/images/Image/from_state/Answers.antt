@@ -1,6 +1,6 @@
 use Rattle.std.proofs.Common.{◌≡◌, ◌+◌, ◌%◌, ◌^◌, ap, ◌∙◌, arith}
 use Rattle.std.specs.Prelude.{fold}
-use Rattle.ps_bucket_log.specs.Buckets.{fresh}
+use Rattle.ps_bucket_log.specs.Buckets.{fresh_bucket}
 use Rattle.ps_client_log.specs.Images.{image_of}
 use Rattle.ps_client_log.specs.Kept.{with_held, told_by, held_sum}
 use Rattle.ps_client_log.proofs.Telling.{told, total_added}
@@ -8,7 +8,7 @@ use Rattle.ps_client_log.proofs.images.Image.from_state.Goals as goal
 
 pub returns : goal.returns
 returns c =
-    let begun : image_of c.reserve.new.self ≡ fresh = c.reserve.ensures.image ∙ c.new-image.ensures in
+    let begun : image_of c.reserve.new.self ≡ fresh_bucket = c.reserve.ensures.image ∙ c.new-image.ensures in
     let all : image_of c.hold_all.new.self ≡ told_by 0 0 c.args.held =
     c.in_ok-hold_all.ensures ∙ ap (λ entries. fold with_held (image_of c.reserve.new.self) entries) c.into_vec.ensures
     ∙ ap (λ bucket. fold with_held bucket c.args.held) begun ∙ told 0 0 c.args.held (omega arith) in

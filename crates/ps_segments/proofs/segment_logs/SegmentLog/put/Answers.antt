@@ -4,7 +4,7 @@ use Rattle.ps_bucket_log.specs.declared.ops.Op.{Op}
 use Rattle.ps_bucket_log.specs.Ops.{id_of, checksum}
 use Rattle.ps_bucket_log.specs.Logs.{IsLog, LogState}
 use Rattle.ps_segments.specs.declared.entries.Entry.{Entry}
-use Rattle.ps_segments.specs.Segmented.{ops_of, entries_of, IsSummed}
+use Rattle.ps_segments.specs.Segmented.{entry_ops, all_entries, IsSummed}
 use Rattle.ps_segments.proofs.Noting.{room_to_count, IsSummed-push, ops_of-push}
 use Rattle.ps_segments.proofs.segment_logs.SegmentLog.put.Goals as goal
 
@@ -34,6 +34,6 @@ returns-clause-appended c =
     let e : Entry = record { op = c.args.op; sum = c.add-sum.result; count = c.self.inside.count + 1 } in
     let items : c.push_reserved.new.self.items ≡ c.self.inside.growing.items ++ e ∷ [] =
     c.push_reserved.ensures.items ∙ ap (λ (x : Entry). c.self.inside.growing.items ++ x ∷ []) c.new.ensures in
-    ap (λ (es : List Entry). ops_of (entries_of c.self.inside.sealed.items es)) items
+    ap (λ (es : List Entry). entry_ops (all_entries c.self.inside.sealed.items es)) items
     ∙ ops_of-push c.self.inside.sealed.items c.self.inside.growing.items e
     ∙ ap (λ (ops : List Op). ops ++ c.args.op ∷ []) same

@@ -2,7 +2,7 @@ use Rattle.std.proofs.Common.{◌≡◌, ◌<◌, List, [], ◌∷◌, ◌++◌,
 use Rattle.std.proofs.lemmas.Grind.{common_steps}
 use Rattle.ps_bucket_log.specs.Logs.{LogState}
 use Rattle.ps_segments.specs.declared.entries.Entry.{Entry}
-use Rattle.ps_segments.specs.Segmented.{ops_of}
+use Rattle.ps_segments.specs.Segmented.{entry_ops}
 use Rattle.ps_segments.proofs.Noting.{IsSummed-seal, entries_of-seal}
 use Rattle.ps_segments.proofs.segment_logs.SegmentLog.seal_full.Goals as goal
 
@@ -24,4 +24,4 @@ returns-in-Ok-clause-same c =
     ∙ ap (λ (s : List Entry). c.self.inside.sealed.items ++ s ∷ []) full in
     let none : c.replace-full.new.dest.items ≡ [] = rw c.replace-full.ensures.after c.in_ok-growing.ensures.items in
     let same = ap (λ (state : LogState). state.ops) c.self.view_is in
-    rw (sealed, none) (ap ops_of (entries_of-seal c.self.inside.sealed.items c.self.inside.growing.items) ∙ same)
+    rw (sealed, none) (ap entry_ops (entries_of-seal c.self.inside.sealed.items c.self.inside.growing.items) ∙ same)

@@ -1,7 +1,7 @@
 use Rattle.std.proofs.Common.{◌≡◌, List, Some, refl}
 use Rattle.ps_store.specs.declared.events.Event.{Event}
 use Rattle.ps_store.specs.declared.fixed.Fixed.{Fixed}
-use Rattle.ps_store.specs.Readings.{Takes}
+use Rattle.ps_store.specs.Readings.{TakesCheckpoint}
 use Rattle.ps_serve.specs.declared.readers.Reader.{Reader}
 use Rattle.ps_serve.proofs.Looking.{came, read_on, stands_on}
 use Rattle.ps_serve.proofs.turning.LockReadingsReadings.take.Goals as goal
@@ -21,5 +21,5 @@ returns g c = λ fixed history stands.
       tt,
       stands_on g.N.Named.lock g.N.Named.entries lock held fixed history c.unwrap-seat.result after look turn.0 is turn.1.looks c.take_in_turn-seat.ensures.lock refl stands,
       read_on g.N.Named.lock g.N.Named.entries lock held fixed history c.unwrap-seat.result after look turn.0 is turn.1.looks c.take_in_turn-seat.ensures.lock refl stands
-          (λ (f : Fixed) (xs : List Event). Takes f xs c.args.asker.now c.take_in_turn-seat.result.2) turn.1.takes,
+          (λ (f : Fixed) (xs : List Event). TakesCheckpoint f xs c.args.asker.now c.take_in_turn-seat.result.2) turn.1.takes,
     )

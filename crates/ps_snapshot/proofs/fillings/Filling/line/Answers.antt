@@ -1,7 +1,7 @@
 use Rattle.std.proofs.Common.{Err, [], ◌∷◌, ◌++◌, sym, subst}
 use Rattle.ps_snapshot.specs.declared.faults.FillFault.{FillFault}
 use Rattle.ps_snapshot.specs.FirstCopies.{copy_of}
-use Rattle.ps_snapshot.specs.Fillings.{Takes}
+use Rattle.ps_snapshot.specs.Fillings.{TakesCopyLine}
 use Rattle.ps_snapshot.proofs.Advancing.{next_comes, not_failed, accepts_stay, accepts_takes, refused_takes, refused_stays}
 use Rattle.ps_snapshot.proofs.fillings.Filling.line.Goals as goal
 
@@ -25,7 +25,7 @@ returns-in-Err c = record {
   stays = refused_stays c.args.self.now c.refuse.new.self c.in-Err.fault c.refuse.ensures.left c.requires;
   again = λ failure h. absurd (not_failed c.args.self.now failure c.in_default.is h);
   taken = λ fixed lines h.
-      subst (λ (f : FillFault). Takes fixed lines c.args.line.now c.args.self.now c.refuse.new.self (Err f)) (sym c.refuse.ensures.value)
+      subst (λ (f : FillFault). TakesCopyLine fixed lines c.args.line.now c.args.self.now c.refuse.new.self (Err f)) (sym c.refuse.ensures.value)
       (refused_takes fixed lines c.args.line.now c.args.self.now c.refuse.new.self c.in-Err.fault (c.in-Err.ensures.exact (copy_of lines) h.progress) c.refuse.ensures.left);
   whole = λ fixed lines before h stood. c.first_copies_are_whole.ensures before lines h.placed stood;
 }

@@ -5,7 +5,7 @@ use Rattle.std.specs.BTreeMap.{get}
 use Rattle.std.specs.Cmp.Lexicographic.{slice_cmp}
 use Rattle.std.specs.Ordering.{nat_cmp}
 use Rattle.ps_bucket_log.specs.Logs.{LogState}
-use Rattle.ps_store.specs.StoreLogs.{ops_of, spare_of}
+use Rattle.ps_store.specs.StoreLogs.{log_ops, spare_of}
 use Rattle.ps_store.proofs.Maps.{Puts, tied, equal, read_changed, read_less}
 use Rattle.ps_store.proofs.logs.Logs.append.Goals as goal
 
@@ -14,8 +14,8 @@ returns-in-Some-clause-logs c =
     let w : LogState = c.append.new.self in
     let there : Some c.in-Some.log.now ≡ get (slice_cmp nat_cmp) c.args.self.now.logs c.args.name.now = c.in-Some.ensures.value in
     let puts : Puts (slice_cmp nat_cmp) c.args.self.now.logs (c.get_mut.follows.lender w) c.args.name.now w = ((c.get_mut.follows.holds w).3 (subst IsSome c.in-Some.ensures.value refl)).0 in
-    read_changed (slice_cmp nat_cmp) bytes_eq tied equal (λ o. option_map_or ops_of o []) (λ ops. ops ++ c.args.op ∷ []) c.args.self.now.logs (c.get_mut.follows.lender w) c.args.name.now (Some w) puts
-    (c.append.ensures.appended ∙ ap (λ o. option_map_or ops_of o [] ++ c.args.op ∷ []) there)
+    read_changed (slice_cmp nat_cmp) bytes_eq tied equal (λ o. option_map_or log_ops o []) (λ ops. ops ++ c.args.op ∷ []) c.args.self.now.logs (c.get_mut.follows.lender w) c.args.name.now (Some w) puts
+    (c.append.ensures.appended ∙ ap (λ o. option_map_or log_ops o [] ++ c.args.op ∷ []) there)
 
 pub returns-in-Some-clause-rooms : goal.returns-in-Some-clause-rooms
 returns-in-Some-clause-rooms c =

@@ -15,7 +15,7 @@ use Rattle.ps_store.specs.declared.plans.Plan.{Plan}
 use Rattle.ps_store.specs.declared.rows.Rows.{Rows}
 use Rattle.ps_store.specs.Ledgers.{write_next}
 use Rattle.ps_store.specs.Originals.{Timed, key_of}
-use Rattle.ps_store.specs.Plans.{PlanStands, IsMade, with_change, row_seen}
+use Rattle.ps_store.specs.Plans.{PlanStands, MakesEntries, with_change, row_seen}
 use Rattle.ps_store.specs.Runs.{refusal_of}
 use Rattle.ps_store.proofs.Planning.{is_wide, is_made}
 use Rattle.ps_store.proofs.plans.Plan.add.Goals as goal
@@ -59,7 +59,7 @@ returns-in-Ok c =
     let seen : before ≡ row_seen old rows changes (key_of read) = c.row_before-before.ensures ∙ ap (row_seen old rows changes) c.in_ok-key.ensures in
     IfOk-weaker c.keep.result _ _ (λ refusal kept base ts t h count at.
     let same : t ≡ read = of_read changes c.args.place t read at c.index-waiting.ensures in
-    let made : IsMade limits (fold write_next base ts) read entries = is_made limits rules base ts read h.rules_are rows changes old h entries (rw seen at said.0) said.1 said.2 in
+    let made : MakesEntries limits (fold write_next base ts) read entries = is_made limits rules base ts read h.rules_are rows changes old h entries (rw seen at said.0) said.1 said.2 in
     let there : slice_get changes (length ts) ≡ Some read = ap (slice_get changes) count ∙ at ∙ ap Some same in
     subst (λ (x : Timed). (refusal ≡ refusal_of limits (fold write_next base ts) x) × PlanStands rules rows changes c.keep.new.self base (with_change refusal ts x)) (sym same)
     (kept rows changes base ts h there made)) c.keep.ensures

@@ -5,7 +5,7 @@ use Rattle.ps_store.specs.declared.fixed.Limits.{Limits}
 use Rattle.ps_store.specs.declared.plans.Made.{Made}
 use Rattle.ps_store.specs.declared.plans.Plan.{Plan}
 use Rattle.ps_store.specs.Originals.{Timed}
-use Rattle.ps_store.specs.Places.{Place, place_of, places_left}
+use Rattle.ps_store.specs.Places.{Place, entry_place, places_left}
 use Rattle.ps_store.proofs.Planning.{is_full, is_fine, stands_more}
 use Rattle.ps_store.proofs.plans.Plan.keep.Goals as goal
 
@@ -16,8 +16,8 @@ returns-then-not-has_ids c = λ rows changes base ts h at made.
     let rules : RuleSet = c.args.fixed.now.rules in
     let entries : ChangeEntries = c.args.entries in
     let gone : List Place = c.in_ok-gone.gone in
-    let is_gone : gone ≡ places_left (map place_of entries.before) entries.after =
-    c.in_ok-gone.ensures ∙ ap (λ ps. places_left ps c.as_slice-2.result.now) (c.as_slice.ensures ∙ c.in_ok-places.ensures) ∙ ap (places_left (map place_of entries.before)) c.as_slice-2.ensures in
+    let is_gone : gone ≡ places_left (map entry_place entries.before) entries.after =
+    c.in_ok-gone.ensures ∙ ap (λ ps. places_left ps c.as_slice-2.result.now) (c.as_slice.ensures ∙ c.in_ok-places.ensures) ∙ ap (places_left (map entry_place entries.before)) c.as_slice-2.ensures in
     let full : limits.ops < c.args.self.now.last.0 + (c.len.result + c.len-2.result) =
     subst (λ (l : Limits). l.ops < c.args.self.now.last.0 + (c.len.result + c.len-2.result)) c.limits.ensures (c.has_ids.ensures.full c.if-not-has_ids.true) in
     let more : limits.ops < c.args.self.now.last.0 + (length gone + length entries.after) = omega (arith, full, c.len.ensures, c.len-2.ensures) in
@@ -31,8 +31,8 @@ returns c = λ rows changes base ts h at made.
     let old : Plan = c.args.self.now in
     let entries : ChangeEntries = c.args.entries in
     let gone : List Place = c.in_ok-gone.gone in
-    let is_gone : gone ≡ places_left (map place_of entries.before) entries.after =
-    c.in_ok-gone.ensures ∙ ap (λ ps. places_left ps c.as_slice-2.result.now) (c.as_slice.ensures ∙ c.in_ok-places.ensures) ∙ ap (places_left (map place_of entries.before)) c.as_slice-2.ensures in
+    let is_gone : gone ≡ places_left (map entry_place entries.before) entries.after =
+    c.in_ok-gone.ensures ∙ ap (λ ps. places_left ps c.as_slice-2.result.now) (c.as_slice.ensures ∙ c.in_ok-places.ensures) ∙ ap (places_left (map entry_place entries.before)) c.as_slice-2.ensures in
     let low : old.last.0 + (c.len.result + c.len-2.result) ≤ limits.ops =
     subst (λ (l : Limits). old.last.0 + (c.len.result + c.len-2.result) ≤ l.ops) c.limits.ensures (c.has_ids.ensures.left c.if-not-has_ids.false) in
     let fits : old.last.0 + (length gone + length entries.after) ≤ limits.ops = omega (arith, low, c.len.ensures, c.len-2.ensures) in

@@ -1,5 +1,0 @@
-use Rattle.ps_core.proofs.Legal.{stay_legal}
-use Rattle.ps_core.proofs.play_laws.plays_stay_legal.Goals as goal
-
-pub returns : goal.returns
-returns c = stay_legal
