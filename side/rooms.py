@@ -161,6 +161,8 @@ def laws(top, crate, warnings, done):
                     kept.append(item)
             if not kept:
                 return ""
+            if not any(it.split("::")[-1] in names for it in re.findall(r"[\w:]+", found["names"])):
+                return found[0]
             return f"{found['head']}{{{', '.join(kept)}}};\n" if len(kept) > 1 else f"{found['head']}{kept[0]};\n"
 
         new = re.sub(rf"(?m)^(?P<head>use {own}::)(?P<names>\{{[^}}]*\}}|\w+);\n", drop, new)

@@ -7,7 +7,10 @@ use case_stores::{limits_of, rules_of, transaction_of};
 use case_words::{Stop, number_in};
 use ps_data::Text;
 use ps_lock::{Seat, StoreLock};
-use ps_workers::{SharedStore, close_in_turn, commit_in_turn, compact_in_turn, feed_in_turn, open_store, write_in_turn};
+use ps_workers::{
+    SharedStore, close_in_turn, commit_in_turn, compact_in_turn, feed_in_turn, open_store,
+    write_in_turn,
+};
 use std::alloc::Global;
 use std::sync::Wait;
 

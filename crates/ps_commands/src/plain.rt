@@ -18,7 +18,9 @@ use crate::replaying::replay_files;
 use ps_audit::Verdict;
 use ps_data::Text;
 use ps_due_rows::{Feeding, load_rows};
-use ps_files::{Fault, load_asker, load_keys, load_reports, load_rules, print_check, print_made, say, sign_line};
+use ps_files::{
+    Fault, load_asker, load_keys, load_reports, load_rules, print_check, print_made, say, sign_line,
+};
 use ps_io::{Files, Sink};
 use ps_token::SignFault;
 use std::alloc::Global;

@@ -18,7 +18,10 @@ use crate::drafts::{Checked, Draft, Known, Written};
 use crate::name_sets::NameSet;
 use crate::walks::{asks_parameters, has_unknown};
 use ps_data::{Items, Memory, Text};
-use ps_definitions::{Branch, Definition, MOST_BRANCHES, Match, Planned, Warning, WarningKind, branches_of, count_branches};
+use ps_definitions::{
+    Branch, Definition, MOST_BRANCHES, Match, Planned, Warning, WarningKind, branches_of,
+    count_branches,
+};
 use ps_queries::{DataQuery, Expr, Output, ParameterQuery, Subject};
 use ps_sql::{SqlFault, read_data_query, read_parameter_query};
 use std::alloc::Global;

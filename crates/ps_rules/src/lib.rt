@@ -10,5 +10,7 @@ mod shapes;
 mod walks;
 
 pub use faults::RulesFault;
-pub use ps_definitions::{Branch, Definition, Match, Planned, Rules, Warning, WarningKind, bucket_name, have_64_bits};
+pub use ps_definitions::{
+    Branch, Definition, Match, Planned, Rules, Warning, WarningKind, bucket_name, have_64_bits,
+};
 pub use reading::read_rules;

@@ -17,7 +17,9 @@ use ps_doors::{Bell, Doors};
 use ps_io::{Clock, Sink, Source};
 use ps_lock::{Seat, StoreLock};
 use ps_sockets::{Rings, RungBell};
-use ps_workers::{NextRules, OpenGate, SharedStore, WorkEnd, close_in_turn, compact_all, feed_and_write};
+use ps_workers::{
+    NextRules, OpenGate, SharedStore, WorkEnd, close_in_turn, compact_all, feed_and_write,
+};
 use std::alloc::Global;
 use std::snapshot::Snapshot;
 use std::sync::Wait;

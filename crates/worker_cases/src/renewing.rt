@@ -11,7 +11,10 @@ use ps_definitions::Rules;
 use ps_doors::QuietBell;
 use ps_lock::{Seat, StoreLock};
 use ps_store::Store;
-use ps_workers::{NextRules, OpenGate, SharedStore, WorkEnd, close_in_turn, deploy_in_turn, feed_and_write, feed_in_turn, open_store};
+use ps_workers::{
+    NextRules, OpenGate, SharedStore, WorkEnd, close_in_turn, deploy_in_turn, feed_and_write,
+    feed_in_turn, open_store,
+};
 use std::alloc::Global;
 use std::sync::Wait;
 

@@ -15,7 +15,10 @@ use ps_gen::make_input;
 use ps_lock::{Seat, StoreLock};
 use ps_rows::{Change, Transaction};
 use ps_store::Store;
-use ps_workers::{SharedStore, close_in_turn, commit_in_turn, feed_in_turn, number_in_turn, upload_in_turn, write_in_turn};
+use ps_workers::{
+    SharedStore, close_in_turn, commit_in_turn, feed_in_turn, number_in_turn, upload_in_turn,
+    write_in_turn,
+};
 use std::alloc::Global;
 use std::sync::Wait;
 use std::thread::{Threads, join};

@@ -3,7 +3,10 @@
 use crate::base::words::bytes;
 use case_words::{Stop, cut, signed_number_in};
 use ps_data::{Boxed, Column, Items, Text, TextFault, Truth, Value};
-use ps_values::{ValueFault, compare, decimal, document, equal_sql, json_of_value, object_of_columns, plain, plain_json, quoted, read_decimal, read_json, text_of_json, truth_of, value_of_json};
+use ps_values::{
+    ValueFault, compare, decimal, document, equal_sql, json_of_value, object_of_columns, plain,
+    plain_json, quoted, read_decimal, read_json, text_of_json, truth_of, value_of_json,
+};
 use serde_json::Value as Json;
 use std::alloc::Global;
 use std::cmp::Ordering;
