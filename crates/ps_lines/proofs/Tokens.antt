@@ -13,18 +13,18 @@ use Rattle.serde_json.specs.Data.{Data as Json, null, boolean, number, string, a
 use Rattle.serde_json.specs.Read.{read, of_json, of_items, max_depth}
 use Rattle.serde_json.specs.View.{items_of}
 use Rattle.serde_json.specs.Written.{outline, items_outline, members_outline}
-use Rattle.ps_lines.specs.Tokens.{tokens_of, member_tokens, members_tokens, AddsTokens}
+use Rattle.ps_lines.specs.Tokens.{tokens_of, member_tokens, members_tokens, Adds}
 use Rattle.ps_lines.specs.Writing.{list_json, named_members, upload_member}
 
 -- ---- pieces behind one another
 
-pub behind : {a b c : Written} {xs ys : List Token} → AddsTokens a b xs → AddsTokens b c ys → AddsTokens a c (xs ++ ys)
+pub behind : {a b c : Written} {xs ys : List Token} → Adds a b xs → Adds b c ys → Adds a c (xs ++ ys)
 behind {a} {b} {c} {xs} {ys} h k = record {
   before = k.before ∙ h.before;
   tokens = k.tokens ∙ ap (λ ts. ts ++ ys) h.tokens ∙ append_assoc a.tokens xs ys;
 }
 
-pub added : {E : Type 0} {done : Unit {0}} {a b : Written} {t : Token} → Writes {E = E} (Ok done) a b t → AddsTokens a b (t ∷ [])
+pub added : {E : Type 0} {done : Unit {0}} {a b : Written} {t : Token} → Writes {E = E} (Ok done) a b t → Adds a b (t ∷ [])
 added h = record { before = h.room.0; tokens = h.ok }
 
 -- the end of an object whose last member may be left out
@@ -32,9 +32,9 @@ upload_ended : (n : Option ℕ) → members_tokens (upload_member n) ++ end_obje
 upload_ended None = refl
 upload_ended (Some n) = refl
 
-pub with_upload : {a b c : Written} (n : Option ℕ) → AddsTokens a b (members_tokens (upload_member n)) → AddsTokens b c (end_object ∷ [])
-    → AddsTokens a c (tree.members_tokens (members_outline (named_members (upload_member n))))
-with_upload {a} {b} {c} n h k = subst (AddsTokens a c) (upload_ended n) (behind h k)
+pub with_upload : {a b c : Written} (n : Option ℕ) → Adds a b (members_tokens (upload_member n)) → Adds b c (end_object ∷ [])
+    → Adds a c (tree.members_tokens (members_outline (named_members (upload_member n))))
+with_upload {a} {b} {c} n h k = subst (Adds a c) (upload_ended n) (behind h k)
 
 -- ---- the items of a list
 
@@ -47,7 +47,7 @@ abbrev pub IsWrittenTo : {A : Type 0} → (A → Json) → List A → ℕ → Wr
 IsWrittenTo f xs i old now = (now.before ≡ old.before) × (now.tokens ++ tokens_left f i xs ≡ old.tokens ++ tokens_left f 0 xs)
 
 pub list_goes_on : {A : Type 0} (f : A → Json) (xs : List A) (i : ℕ) (x : A) (a b c : Written) → i < length xs → x ≡ get_or xs i x
-    → AddsTokens b c (tokens_of (f x)) → IsWrittenTo f xs i a b → IsWrittenTo f xs (i + 1) a c
+    → Adds b c (tokens_of (f x)) → IsWrittenTo f xs i a b → IsWrittenTo f xs (i + 1) a c
 list_goes_on f xs i x a b c within is h k =
     let more : drop i xs ≡ x ∷ drop (i + 1) xs = drop_more xs i x within ∙ ap (λ y. y ∷ drop (i + 1) xs) (sym is) in
     let left : tokens_left f i xs ≡ tokens_of (f x) ++ tokens_left f (i + 1) xs = ap (λ ys. tree.items_tokens (items_outline (items_of (map f ys)))) more in (
@@ -55,8 +55,8 @@ list_goes_on f xs i x a b c within is h k =
       ap (λ ts. ts ++ tokens_left f (i + 1) xs) h.tokens ∙ append_assoc b.tokens (tokens_of (f x)) (tokens_left f (i + 1) xs) ∙ ap (λ ts. b.tokens ++ ts) (sym left) ∙ k.1,
     )
 
-pub list_ended : {A : Type 0} (f : A → Json) (name : List ℕ) (xs : List A) (i : ℕ) (a b c d : Written) → AddsTokens a b (key name ∷ begin_array ∷ []) → drop i xs ≡ []
-    → IsWrittenTo f xs i b c → AddsTokens c d (end_array ∷ []) → AddsTokens a d (member_tokens (name, list_json f xs))
+pub list_ended : {A : Type 0} (f : A → Json) (name : List ℕ) (xs : List A) (i : ℕ) (a b c d : Written) → Adds a b (key name ∷ begin_array ∷ []) → drop i xs ≡ []
+    → IsWrittenTo f xs i b c → Adds c d (end_array ∷ []) → Adds a d (member_tokens (name, list_json f xs))
 list_ended f name xs i a b c d begun none h k =
     let left : tokens_left f i xs ≡ end_array ∷ [] = ap (λ ys. tree.items_tokens (items_outline (items_of (map f ys)))) none in
     behind begun (record { before = k.before ∙ h.0; tokens = k.tokens ∙ ap (λ ts. c.tokens ++ ts) (sym left) ∙ h.1 })

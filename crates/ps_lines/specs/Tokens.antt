@@ -17,6 +17,6 @@ members_tokens [] = []
 members_tokens (named ∷ more) = member_tokens named ++ members_tokens more
 
 -- behind what the writer held stand these tokens too
-pub record AddsTokens (old new : Written) (added : List Token) : Type 0 where
+pub record Adds (old new : Written) (added : List Token) : Type 0 where
   pub before : new.before ≡ old.before
   pub tokens : new.tokens ≡ old.tokens ++ added

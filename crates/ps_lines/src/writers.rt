@@ -1,7 +1,7 @@
 ghost use Rattle.std.specs.Prelude.{◌≡◌, ◌<◌, ◌^◌, All, IfOk, OnOk, Ok};
 ghost use Rattle.ps_bucket_log.specs.Ops.{checksum};
 ghost use Rattle.ps_lines.specs.Reading.{line_of};
-ghost use Rattle.ps_lines.specs.Tokens.{tokens_of, member_tokens, AddsTokens};
+ghost use Rattle.ps_lines.specs.Tokens.{tokens_of, member_tokens, Adds};
 ghost use Rattle.ps_lines.specs.Writing.{list_json, entry_json, op_json, put_json, remove_json, bare_json, checkpoint_json, diff_json, data_json, complete_json, line_json, text_of_line, IsWritable, SumsFit, CountsFit, without_targets};
 
 use crate::member_writers::{
@@ -34,7 +34,7 @@ pub fn write_line(alloc: Global, line: &Line) -> Result<Vec<u8>, Memory>
 // A line is an object with a single member.
 fn write_json(writer: &mut Writer, line: &Line) -> Result<(), Memory>
     requires { IsWritable line.now }
-    ensures value { OnOk result (AddsTokens writer.old writer.new (tokens_of (line_json line.now))) }
+    ensures value { OnOk result (Adds writer.old writer.new (tokens_of (line_json line.now))) }
     ensures sums { OnOk result (SumsFit line.now) }
     ensures counts { OnOk result (CountsFit line.now) }
 {
@@ -107,7 +107,7 @@ fn write_checkpoint(
     number: Option<u64>,
     buckets: &[Entry],
 ) -> Result<(), Memory>
-    ensures value { OnOk result (AddsTokens writer.old writer.new (tokens_of (checkpoint_json last_op number buckets.now))) }
+    ensures value { OnOk result (Adds writer.old writer.new (tokens_of (checkpoint_json last_op number buckets.now))) }
     ensures sums { OnOk result (All (λ entry. entry.sum.0 < 2 ^ 32) buckets.now) }
     ensures counts { OnOk result (All (λ entry. entry.count < 2 ^ 64) buckets.now) }
 {
@@ -126,7 +126,7 @@ fn write_diff(
     removed: &[Text],
     updated: &[Entry],
 ) -> Result<(), Memory>
-    ensures value { OnOk result (AddsTokens writer.old writer.new (tokens_of (diff_json last_op number removed.now updated.now))) }
+    ensures value { OnOk result (Adds writer.old writer.new (tokens_of (diff_json last_op number removed.now updated.now))) }
     ensures sums { OnOk result (All (λ entry. entry.sum.0 < 2 ^ 32) updated.now) }
     ensures counts { OnOk result (All (λ entry. entry.count < 2 ^ 64) updated.now) }
 {
@@ -147,7 +147,7 @@ fn write_data(
     ops: &[Op],
     next_after: OpId,
 ) -> Result<(), Memory>
-    ensures value { OnOk result (AddsTokens writer.old writer.new (tokens_of (data_json bucket.now after has_more ops.now next_after))) }
+    ensures value { OnOk result (Adds writer.old writer.new (tokens_of (data_json bucket.now after has_more ops.now next_after))) }
     ensures sums { OnOk result (All (λ op. checksum op < 2 ^ 32) ops.now) }
 {
     writer.begin_object()?;
@@ -161,7 +161,7 @@ fn write_data(
 }
 
 fn write_complete(writer: &mut Writer, last_op: OpId) -> Result<(), Memory>
-    ensures { OnOk result (AddsTokens writer.old writer.new (tokens_of (complete_json last_op))) }
+    ensures { OnOk result (Adds writer.old writer.new (tokens_of (complete_json last_op))) }
 {
     writer.begin_object()?;
     write_decimal(writer, "last_op_id", last_op.0)?;
@@ -170,7 +170,7 @@ fn write_complete(writer: &mut Writer, last_op: OpId) -> Result<(), Memory>
 }
 
 fn write_entries(writer: &mut Writer, name: &str, entries: &[Entry]) -> Result<(), Memory>
-    ensures value { OnOk result (AddsTokens writer.old writer.new (member_tokens (name.now, list_json entry_json entries.now))) }
+    ensures value { OnOk result (Adds writer.old writer.new (member_tokens (name.now, list_json entry_json entries.now))) }
     ensures sums { OnOk result (All (λ entry. entry.sum.0 < 2 ^ 32) entries.now) }
     ensures counts { OnOk result (All (λ entry. entry.count < 2 ^ 64) entries.now) }
 {
@@ -184,7 +184,7 @@ fn write_entries(writer: &mut Writer, name: &str, entries: &[Entry]) -> Result<(
 }
 
 fn write_entry(writer: &mut Writer, entry: &Entry) -> Result<(), Memory>
-    ensures value { OnOk result (AddsTokens writer.old writer.new (tokens_of (entry_json entry.now))) }
+    ensures value { OnOk result (Adds writer.old writer.new (tokens_of (entry_json entry.now))) }
     ensures sums { OnOk result (entry.now.sum.0 < 2 ^ 32) }
     ensures counts { OnOk result (entry.now.count < 2 ^ 64) }
 {
@@ -198,7 +198,7 @@ fn write_entry(writer: &mut Writer, entry: &Entry) -> Result<(), Memory>
 }
 
 fn write_ops(writer: &mut Writer, name: &str, ops: &[Op]) -> Result<(), Memory>
-    ensures value { OnOk result (AddsTokens writer.old writer.new (member_tokens (name.now, list_json op_json ops.now))) }
+    ensures value { OnOk result (Adds writer.old writer.new (member_tokens (name.now, list_json op_json ops.now))) }
     ensures sums { OnOk result (All (λ op. checksum op < 2 ^ 32) ops.now) }
 {
     writer.key(name)?;
@@ -212,7 +212,7 @@ fn write_ops(writer: &mut Writer, name: &str, ops: &[Op]) -> Result<(), Memory>
 
 #[tactic(auto, unfolding(crate::specs::Writing::op_json))]
 fn write_op(writer: &mut Writer, op: &Op) -> Result<(), Memory>
-    ensures value { OnOk result (AddsTokens writer.old writer.new (tokens_of (op_json op.now))) }
+    ensures value { OnOk result (Adds writer.old writer.new (tokens_of (op_json op.now))) }
     ensures sums { OnOk result (checksum op.now < 2 ^ 32) }
 {
     match op {
@@ -235,7 +235,7 @@ fn write_put(
     content: &Text,
     sum: Sum,
 ) -> Result<(), Memory>
-    ensures value { OnOk result (AddsTokens writer.old writer.new (tokens_of (put_json id key.now content.now sum))) }
+    ensures value { OnOk result (Adds writer.old writer.new (tokens_of (put_json id key.now content.now sum))) }
     ensures sums { OnOk result (sum.0 < 2 ^ 32) }
 {
     writer.begin_object()?;
@@ -251,7 +251,7 @@ fn write_put(
 }
 
 fn write_remove(writer: &mut Writer, id: OpId, key: &Key, sum: Sum) -> Result<(), Memory>
-    ensures value { OnOk result (AddsTokens writer.old writer.new (tokens_of (remove_json id key.now sum))) }
+    ensures value { OnOk result (Adds writer.old writer.new (tokens_of (remove_json id key.now sum))) }
     ensures sums { OnOk result (sum.0 < 2 ^ 32) }
 {
     writer.begin_object()?;
@@ -267,7 +267,7 @@ fn write_remove(writer: &mut Writer, id: OpId, key: &Key, sum: Sum) -> Result<()
 
 // An operation that speaks of no row.
 fn write_bare(writer: &mut Writer, op: &str, id: OpId, sum: Sum) -> Result<(), Memory>
-    ensures value { OnOk result (AddsTokens writer.old writer.new (tokens_of (bare_json op.now id sum))) }
+    ensures value { OnOk result (Adds writer.old writer.new (tokens_of (bare_json op.now id sum))) }
     ensures sums { OnOk result (sum.0 < 2 ^ 32) }
 {
     writer.begin_object()?;

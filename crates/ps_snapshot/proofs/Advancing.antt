@@ -15,7 +15,7 @@ use Rattle.ps_snapshot.specs.Faults.{◌>>=◌, Reads, fault_of_failure, fault_o
 use Rattle.ps_snapshot.specs.FirstCopies.{FirstCopy, nothing, after_line, copy_of, puts_of, is_next_chunk, belongs, position_of, lacking, CanCome, AreInPlace}
 use Rattle.ps_snapshot.specs.Fillings.{Fills, HasFailed, IsFilling, Advances, Accepts, LeavesBehind, TakesCopyLine}
 use Rattle.ps_snapshot.specs.Judging.{unless_open, judged, next_line}
-use Rattle.ps_snapshot.specs.Progress.{ProgressHolds}
+use Rattle.ps_snapshot.specs.Progress.{Tracks}
 use Rattle.ps_snapshot.specs.Reading.{copy_line_of}
 use Rattle.ps_snapshot.specs.Writing.{IsPending, HasCause, WritesFed}
 use Rattle.ps_snapshot.proofs.Chunks.{both}
@@ -64,13 +64,13 @@ copy_more lines line = fold_more after_line nothing lines line
 
 -- a filling after one line more
 pub fills_more : (fixed : Fixed) (lines : List Line) (line : Line) (old new : Filling) → Fills fixed old lines → CanCome (copy_of lines) line → new.failed ≡ None
-    → IsPending fixed (after_line (copy_of lines) line).fed 0 new.store → ProgressHolds new.progress (after_line (copy_of lines) line) → Fills fixed new (lines ++ line ∷ [])
+    → IsPending fixed (after_line (copy_of lines) line).fed 0 new.store → Tracks new.progress (after_line (copy_of lines) line) → Fills fixed new (lines ++ line ∷ [])
 fills_more fixed lines line old new h can sound written holds =
     let same = sym (copy_more lines line) in
     record {
       sound = sound;
       written = subst (λ (c : FirstCopy). IsPending fixed c.fed 0 new.store) same written;
-      progress = subst (λ (c : FirstCopy). ProgressHolds new.progress c) same holds;
+      progress = subst (λ (c : FirstCopy). Tracks new.progress c) same holds;
       placed = placed_more nothing lines line h.placed can;
       head = subst (λ (c : FirstCopy). head_of c.fed ≤ c.last) same (heads (copy_of lines) line h.head can.later);
     }
@@ -139,7 +139,7 @@ past_head fixed lines line old h can = let low = h.head in let later = can.later
 
 -- what it feeds was written, or why not
 pub feeds : (fixed : Fixed) (lines : List Line) (line : Line) (t : Transaction) (old new : Filling) (result : Result (Unit {0}) Failure) → Fills fixed old lines → CanCome (copy_of lines) line
-    → new.failed ≡ None → ProgressHolds new.progress (after_line (copy_of lines) line) → (after_line (copy_of lines) line).fed ≡ (copy_of lines).fed ++ t ∷ []
+    → new.failed ≡ None → Tracks new.progress (after_line (copy_of lines) line) → (after_line (copy_of lines) line).fed ≡ (copy_of lines).fed ++ t ∷ []
     → WritesFed fixed ((copy_of lines).fed ++ t ∷ []) new.store result → Advances fixed (lines ++ line ∷ []) new result
 feeds fixed lines line t old new (Ok done) h can sound holds is wrote =
     fills_more fixed lines line old new h can sound (subst (λ (ts : List Transaction). IsPending fixed ts 0 new.store) (sym is) wrote) holds

@@ -10,7 +10,7 @@ use Rattle.ps_rows.specs.Source.{Key}
 use Rattle.ps_snapshot.specs.declared.progress.Progress.{Progress}
 use Rattle.ps_snapshot.specs.Types.{Chunk, Rows, Changes}
 use Rattle.ps_snapshot.specs.FirstCopies.{FirstCopy, after_line, changed_by, is_changed}
-use Rattle.ps_snapshot.specs.Progress.{ProgressHolds, changed_in}
+use Rattle.ps_snapshot.specs.Progress.{Tracks, changed_in}
 use Rattle.ps_snapshot.proofs.Looking.{text_found}
 
 same_by : (t : Transaction) (f g : Key → ℕ) (key : Key) → f key ≡ g key → changed_by t f key ≡ changed_by t g key
@@ -20,10 +20,10 @@ same_by t f g key h = by (is_changed key t.changes)
     by true = refl
     by false = h
 
-pub changes_hold : (copy : FirstCopy) (t : Transaction) (old new : Progress) (noted : BTreeMap Key Position) → ProgressHolds old copy → new ≡ record old { changed = noted }
-    → (copy.end ≡ None → (key : Key) → changed_in noted key ≡ changed_by t (changed_in old.changed) key) → ProgressHolds (record new { last = t.position }) (after_line copy (Changes t))
+pub changes_hold : (copy : FirstCopy) (t : Transaction) (old new : Progress) (noted : BTreeMap Key Position) → Tracks old copy → new ≡ record old { changed = noted }
+    → (copy.end ≡ None → (key : Key) → changed_in noted key ≡ changed_by t (changed_in old.changed) key) → Tracks (record new { last = t.position }) (after_line copy (Changes t))
 changes_hold copy t old new noted h is changed =
-    let held : ProgressHolds (record old { changed = noted; last = t.position }) (after_line copy (Changes t)) = record {
+    let held : Tracks (record old { changed = noted; last = t.position }) (after_line copy (Changes t)) = record {
       begun = h.begun;
       start = h.start;
       tables = h.tables;
@@ -33,15 +33,15 @@ changes_hold copy t old new noted h is changed =
       changed = λ open_ key. changed open_ key ∙ same_by t (changed_in old.changed) copy.changed key (h.changed open_ key);
       ended = h.ended;
     } in
-    subst (λ (p : Progress). ProgressHolds (record p { last = t.position }) (after_line copy (Changes t))) (sym is) held
+    subst (λ (p : Progress). Tracks (record p { last = t.position }) (after_line copy (Changes t))) (sym is) held
 
 -- from the end on nothing is noted
 pub none_open : (copy : FirstCopy) (ended : Bool) → ended ≡ is_some copy.end → ended ≡ true → copy.end ≡ None → true ≡ false
 none_open copy ended is t none = sym t ∙ is ∙ ap is_some none
 
-pub rows_hold : (copy : FirstCopy) (chunk : Chunk) (old : Progress) (reached : BTreeMap (List ℕ) (Option (List ℕ))) → ProgressHolds old copy
+pub rows_hold : (copy : FirstCopy) (chunk : Chunk) (old : Progress) (reached : BTreeMap (List ℕ) (Option (List ℕ))) → Tracks old copy
     → ((table : List ℕ) → get (slice_cmp nat_cmp) reached table ≡ cond (is_eq (slice_cmp nat_cmp chunk.table table)) (Some chunk.upto) (get (slice_cmp nat_cmp) old.reached table))
-    → ProgressHolds (record old { last = chunk.position; reached = reached }) (after_line copy (Rows chunk))
+    → Tracks (record old { last = chunk.position; reached = reached }) (after_line copy (Rows chunk))
 rows_hold copy chunk old reached h put = record {
   begun = h.begun;
   start = h.start;

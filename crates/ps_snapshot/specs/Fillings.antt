@@ -18,14 +18,14 @@ use Rattle.ps_snapshot.specs.Faults.{fault_of_failure}
 use Rattle.ps_snapshot.specs.FirstCopies.{FirstCopy, nothing, copy_of, AreInPlace}
 use Rattle.ps_snapshot.specs.Judging.{next_line}
 use Rattle.ps_snapshot.specs.Laws.{AreAsTheyStood, CopyIsWhole}
-use Rattle.ps_snapshot.specs.Progress.{ProgressHolds}
+use Rattle.ps_snapshot.specs.Progress.{Tracks}
 use Rattle.ps_snapshot.specs.Writing.{IsPending, HasCause}
 
 -- a filling took these lines: each could come behind those before it, all that they feed is written, and nothing is committed
 pub record Fills (fixed : Fixed) (filling : Filling) (lines : List Line) : Type 0 where
   pub sound : filling.failed ≡ None
   pub written : IsPending fixed (copy_of lines).fed 0 filling.store
-  pub progress : ProgressHolds filling.progress (copy_of lines)
+  pub progress : Tracks filling.progress (copy_of lines)
   pub placed : AreInPlace nothing lines
   pub head : head_of (copy_of lines).fed ≤ (copy_of lines).last
 

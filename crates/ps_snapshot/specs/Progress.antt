@@ -24,7 +24,7 @@ abbrev pub stands_by : Progress → List ℕ → ℕ → CopiedRow → Bool
 stands_by progress table start row = nat_le (changed_in progress.changed (table, row.id)) start
 
 -- what is kept is what is known; changes of rows are known until the end
-pub record ProgressHolds (progress : Progress) (copy : FirstCopy) : Type 0 where
+pub record Tracks (progress : Progress) (copy : FirstCopy) : Type 0 where
   pub begun : progress.begun ≡ copy.begun
   pub start : progress.start.0 ≡ copy.start
   pub tables : progress.tables ≡ copy.tables

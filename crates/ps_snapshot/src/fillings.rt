@@ -10,7 +10,7 @@ ghost use Rattle.ps_snapshot.specs.declared.lines.Line.{Line as LineSeen};
 ghost use Rattle.ps_snapshot.specs.Faults.{Reads, fault_of_line};
 ghost use Rattle.ps_snapshot.specs.FirstCopies.{FirstCopy, nothing, copy_of, position_of, CanCome};
 ghost use Rattle.ps_snapshot.specs.Judging.{next_line};
-ghost use Rattle.ps_snapshot.specs.Progress.{ProgressHolds};
+ghost use Rattle.ps_snapshot.specs.Progress.{Tracks};
 ghost use Rattle.ps_snapshot.specs.Laws.{AreAsTheyStood, CopyIsWhole};
 ghost use Rattle.ps_snapshot.specs.Fillings.{Fills, IsFilling, HasFailed, filled_of, AnswersAgain, Fails, Advances, Accepts, LeavesBehind, TakesCopyLine, Finishes};
 
@@ -102,7 +102,7 @@ impl Filling {
 
     // The line that bytes are, if it may come next.
     fn read(&self, alloc: Global, bytes: &[u8]) -> Result<Line, LineFault>
-        ensures exact { (copy : FirstCopy) → ProgressHolds self.now.progress copy → Reads result (next_line copy bytes.now) }
+        ensures exact { (copy : FirstCopy) → Tracks self.now.progress copy → Reads result (next_line copy bytes.now) }
         ensures low { IfOk result (λ line. (position_of line).0 ≤ greatest) }
     {
         let line = read_line(alloc, bytes)?;
@@ -123,7 +123,7 @@ impl Filling {
     }
 
     fn filled(&self) -> Filled
-        ensures { (copy : FirstCopy) → ProgressHolds self.now.progress copy → result ≡ filled_of copy }
+        ensures { (copy : FirstCopy) → Tracks self.now.progress copy → result ≡ filled_of copy }
     {
         if self.progress.ended() {
             Filled::Ended

@@ -9,7 +9,7 @@ ghost use Rattle.ps_rows.specs.Source.{Key};
 ghost use Rattle.ps_snapshot.specs.Faults.{Reads};
 ghost use Rattle.ps_snapshot.specs.FirstCopies.{FirstCopy, nothing, after_line, changed_by, copied_put, puts_of, is_listed, follows, is_above as lies_above, is_within as lies_within, ids_rise as rising_ids, is_next_chunk as is_next, belongs as may_stand, position_of as position_in, is_whole as has_no_bound};
 ghost use Rattle.ps_snapshot.specs.Judging.{judged, covered, whole};
-ghost use Rattle.ps_snapshot.specs.Progress.{ProgressHolds, changed_in, stands_by};
+ghost use Rattle.ps_snapshot.specs.Progress.{Tracks, changed_in, stands_by};
 ghost use Rattle.ps_snapshot.specs.declared.lines.Line.TheVariants.{Begin as BeginSeen, Rows as RowsSeen, End as EndSeen, Changes as ChangesSeen};
 
 use crate::faults::LineFault;
@@ -38,7 +38,7 @@ pub struct Progress {
 impl Progress {
     /// No line was read. Takes no memory.
     pub fn new(alloc: Global) -> Progress
-        ensures { ProgressHolds result nothing }
+        ensures { Tracks result nothing }
     {
         Progress {
             begun: false,
@@ -54,14 +54,14 @@ impl Progress {
 
     /// Whether the end was read.
     pub fn ended(&self) -> bool
-        ensures { (copy : FirstCopy) → ProgressHolds self.now copy → result ≡ is_some copy.end }
+        ensures { (copy : FirstCopy) → Tracks self.now copy → result ≡ is_some copy.end }
     {
         self.ended
     }
 
     /// Gives a line back where it may come next. Fails by the first that applies: `BadChunk`, `NotRising`, `NotCovered`.
     pub fn judge(&self, alloc: Global, line: Line) -> Result<Line, LineFault>
-        ensures exact { (copy : FirstCopy) → ProgressHolds self.now copy → Reads result (judged copy line) }
+        ensures exact { (copy : FirstCopy) → Tracks self.now copy → Reads result (judged copy line) }
         ensures same { IfOk result (λ given. given ≡ line) }
     {
         if !self.belongs(&line) {
@@ -77,7 +77,7 @@ impl Progress {
 
     // Whether the line stands where such a line may stand.
     fn belongs(&self, line: &Line) -> bool
-        ensures { (copy : FirstCopy) → ProgressHolds self.now copy → result ≡ may_stand copy line.now }
+        ensures { (copy : FirstCopy) → Tracks self.now copy → result ≡ may_stand copy line.now }
     {
         match line {
             Line::Begin {
@@ -91,7 +91,7 @@ impl Progress {
     }
 
     fn is_next_chunk(&self, chunk: &Chunk) -> bool
-        ensures { (copy : FirstCopy) → ProgressHolds self.now copy → result ≡ is_next copy chunk.now }
+        ensures { (copy : FirstCopy) → Tracks self.now copy → result ≡ is_next copy chunk.now }
     {
         self.listed.contains(&chunk.table)
             && self.goes_on(&chunk.table, &chunk.after)
@@ -121,7 +121,7 @@ impl Progress {
 
     // Gives a line back, unless it is the end and a table is not covered.
     fn expect_covered(&self, alloc: Global, line: Line) -> Result<Line, LineFault>
-        ensures exact { (copy : FirstCopy) → ProgressHolds self.now copy → Reads result (covered copy line) }
+        ensures exact { (copy : FirstCopy) → Tracks self.now copy → Reads result (covered copy line) }
         ensures same { IfOk result (λ given. given ≡ line) }
     {
         if let Line::End { position: _ } = &line {
@@ -132,7 +132,7 @@ impl Progress {
 
     // Fails by the first table that is not covered.
     fn expect_whole(&self, alloc: Global) -> Result<(), LineFault>
-        ensures { (copy : FirstCopy) → ProgressHolds self.now copy → Reads result (whole copy) }
+        ensures { (copy : FirstCopy) → Tracks self.now copy → Reads result (whole copy) }
     {
         'tables: for table in self.tables.as_slice() {
             if !self.is_whole(table) {
@@ -150,7 +150,7 @@ impl Progress {
         position: Position,
         tables: Items<Text>,
     ) -> Result<(), Memory>
-        ensures { OnOk result ((copy : FirstCopy) → ProgressHolds self.old copy → ProgressHolds self.new (after_line copy (BeginSeen position tables))) }
+        ensures { OnOk result ((copy : FirstCopy) → Tracks self.old copy → Tracks self.new (after_line copy (BeginSeen position tables))) }
     {
         self.listed = list_tables(alloc, tables.as_slice())?;
         self.begun = true;
@@ -162,8 +162,8 @@ impl Progress {
 
     /// Takes a chunk, and gives the transaction that is fed of it.
     pub fn rows(&mut self, alloc: Global, chunk: Chunk) -> Result<Transaction, Memory>
-        ensures { IfOk result (λ made. (copy : FirstCopy) → ProgressHolds self.old copy → copy.end ≡ None
-            → (made ≡ puts_of copy chunk) × ProgressHolds self.new (after_line copy (RowsSeen chunk))) }
+        ensures { IfOk result (λ made. (copy : FirstCopy) → Tracks self.old copy → copy.end ≡ None
+            → (made ≡ puts_of copy chunk) × Tracks self.new (after_line copy (RowsSeen chunk))) }
     {
         let Chunk {
             position,
@@ -219,7 +219,7 @@ impl Progress {
 
     /// The first copy ends at a position.
     pub fn end(&mut self, alloc: Global, position: Position)
-        ensures { (copy : FirstCopy) → ProgressHolds self.old copy → ProgressHolds self.new (after_line copy (EndSeen position)) }
+        ensures { (copy : FirstCopy) → Tracks self.old copy → Tracks self.new (after_line copy (EndSeen position)) }
     {
         self.changed = BTreeMap::new(alloc);
         self.last = position;
@@ -228,7 +228,7 @@ impl Progress {
 
     /// The source changed by a transaction.
     pub fn changes(&mut self, alloc: Global, transaction: &Transaction) -> Result<(), Memory>
-        ensures { OnOk result ((copy : FirstCopy) → ProgressHolds self.old copy → ProgressHolds self.new (after_line copy (ChangesSeen transaction.now))) }
+        ensures { OnOk result ((copy : FirstCopy) → Tracks self.old copy → Tracks self.new (after_line copy (ChangesSeen transaction.now))) }
     {
         if !self.ended {
             note_changes(alloc, &mut self.changed, transaction)?;
