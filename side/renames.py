@@ -258,6 +258,18 @@ def rename_specs():
         rename_in_page(file, wanted)
 
 
+def rename_paths():
+    """A tactic's attribute names a definition by its path."""
+    table = {(*place.split("/"), old): new for kind, place, old, new, *_ in TABLE if kind == "spec"}
+    for file in sorted((TOP / "crates").glob("*/src/**/*.rt")):
+        crate = file.relative_to(TOP / "crates").parts[0]
+        text = read(file)
+        new = re.sub(r"\b(crate|ps_\w+)::specs::(\w+)::(\w+)", lambda m: f"{m[1]}::specs::{m[2]}::" + table.get((crate if m[1] == "crate" else m[1], m[2], m[3]), m[3]), text)
+        if new != text:
+            write(file, new)
+            DONE["paths"] += 1
+
+
 def rename_in_page(file, wanted):
     """A page names a definition in code, in a line that names its crate, or where only one crate has such a name."""
     if not file.exists():
@@ -354,6 +366,7 @@ def rename_texts():
 
 def main():
     rename_specs()
+    rename_paths()
     rename_words()
     import rooms
 

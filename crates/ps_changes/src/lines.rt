@@ -122,7 +122,7 @@ fn json_of_line<'a>(
     read_borrowed(alloc, bytes, room)
 }
 
-#[tactic(auto, unfolding(crate::specs::Lines::line_of))]
+#[tactic(auto, unfolding(crate::specs::Lines::transaction_of_line))]
 fn line(alloc: Global, bytes: &[u8], room: &mut Scratch) -> Result<Transaction, ChangeFault>
     ensures exact { Reads result (transaction_of_line bytes.now) }
     ensures long { RefusesLong bytes.now result }

@@ -28,7 +28,7 @@ const LONGEST: usize = 16777216;
 /// Reads a line of a first copy: docs/FORMATS.md, "First copies".
 /// Fails by the first that applies: `LineTooLong`, `BadJson`; for a line with none of the members `snapshot`, `chunk` and `snapshot_end`
 /// `BadShape`, `BadPosition`, `BadValue`, as a change line does; for one with such a member `BadChunk`.
-#[tactic(auto, unfolding(crate::specs::Reading::line_of))]
+#[tactic(auto, unfolding(crate::specs::Reading::copy_line_of))]
 pub fn read_line(alloc: Global, bytes: &[u8]) -> Result<Line, LineFault>
     ensures exact { Reads result (copy_line_of bytes.now) }
     ensures low { IfOk result (λ line. (position_of line).0 ≤ greatest) }

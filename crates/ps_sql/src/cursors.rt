@@ -207,7 +207,7 @@ fn is_keyword_word(word: Option<&Word>, keyword: Keyword) -> bool
 }
 
 /// The name that a word is, quoted or not.
-#[tactic(auto, unfolding(crate::specs::Inputs::name_of))]
+#[tactic(auto, unfolding(crate::specs::Inputs::word_name))]
 fn name_of_word(word: Option<&Word>) -> Option<&Text>
     ensures { option_copied result ≡ word_name (option_copied word.entry) }
 {

@@ -250,7 +250,7 @@ fn decimal_value(digits: &[u8]) -> Option<u64>
 }
 
 /// The number at the front, and its length. The first byte is a digit.
-#[tactic(auto, unfolding(crate::specs::Words::number_at))]
+#[tactic(auto, unfolding(crate::specs::Words::number_token))]
 fn number(bytes: &[u8]) -> Option<(i64, usize)>
     ensures { option_map (λ found. (words.Number found.0, found.1)) result ≡ number_token bytes.now }
 {

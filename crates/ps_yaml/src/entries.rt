@@ -44,7 +44,7 @@ pub(crate) fn name_len(text: &[u8]) -> usize
 }
 
 /// Whether a text begins with a NAME, a colon, and then a space or the line's end.
-#[tactic(auto, unfolding(crate::specs::Trees::is_entry))]
+#[tactic(auto, unfolding(crate::specs::Trees::is_mapping_entry))]
 pub(crate) fn is_entry(text: &[u8]) -> bool
     ensures { result ≡ words.is_mapping_entry text.now }
 {

@@ -102,7 +102,7 @@ fn items_at<'l>(
 }
 
 /// The bytes of the NAME of a line that begins an entry.
-#[tactic(auto, unfolding(crate::specs::Trees::name_of))]
+#[tactic(auto, unfolding(crate::specs::Trees::entry_name))]
 fn name_bytes(line: &Line) -> &[u8]
     requires { words.is_mapping_entry (lines_of.content line.now) ≡ true }
     ensures value { result.now ≡ words.entry_name line.now }
