@@ -1,13 +1,10 @@
 -- The numbers that answers have: `{"data":{"write_checkpoint":"N"}}` and `{"data":{"position":"P"}}`, as JSON.
 use Rattle.std.specs.Prelude.{ℕ, List, codes, Option, option_and_then}
+use Rattle.ps_data.specs.OptionChains.{◌>>=◌}
 use Rattle.serde_json.specs.Data.{Data}
 use Rattle.serde_json.specs.Find.{get, as_str}
 use Rattle.ps_data.specs.Documents.{json_of}
 use Rattle.ps_data.specs.Numbers.{decimal_of}
-
-infixl 10 ◌>>=◌
-abbrev pub ◌>>=◌ : {A B : Type 0} → Option A → (A → Option B) → Option B
-o >>= f = option_and_then f o
 
 -- the number that the text of that name is, in the object `data`
 abbrev pub number_at : List ℕ → Data → Option ℕ

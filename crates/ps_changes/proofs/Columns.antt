@@ -7,13 +7,13 @@ use Rattle.std.specs.List.{AllByRecursion}
 use Rattle.std.specs.List.Sorted.{IsStrictlySortedBy}
 use Rattle.std.specs.Map.{keys_of}
 use Rattle.std.specs.declared.alloc.Global.{Global}
+use Rattle.ps_data.specs.Chains.{◌>>=◌}
 use Rattle.json.specs.declared.value.Value.{Value as Borrowed}
 use Rattle.serde_json.specs.Data.{Data, Members, member}
 use Rattle.ps_data.specs.declared.columns.Column.{Column}
 use Rattle.ps_data.specs.declared.values.Value.{Value}
 use Rattle.ps_rows.specs.Rows.{is_id, rises_from, is_row}
 use Rattle.ps_changes.specs.Types.{ChangeFault}
-use Rattle.ps_changes.specs.Members.{◌>>=◌}
 use Rattle.ps_changes.specs.Lines.{value_in, column_of, columns_of}
 use Rattle.ps_changes.specs.Borrowed.{seen, entries_seen}
 

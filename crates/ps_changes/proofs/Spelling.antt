@@ -1,8 +1,9 @@
 -- Between what is read and what is spelled, at an answer.
 use Rattle.std.proofs.Common.{◌≡◌, ℕ, List, Result, Ok, Err, IfOk, ap, ◌∙◌, subst}
+use Rattle.ps_data.specs.Chains.{◌>>=◌}
 use Rattle.ps_values.specs.Laws.{ReadsWhatIsWritten}
 use Rattle.ps_changes.specs.Types.{Change, Transaction, ChangeFault}
-use Rattle.ps_changes.specs.Members.{◌>>=◌, Reads}
+use Rattle.ps_changes.specs.Members.{Reads}
 use Rattle.ps_changes.specs.Shapes.{is_change, has_changes, is_transaction}
 use Rattle.ps_changes.specs.Lines.{change_of, changes_in, transaction_of, json_such, line_of, body_of, lone_change_of}
 use Rattle.ps_changes.specs.Grammar.{IsChange, HasChanges, IsTransaction, IsLine, IsBody, IsLoneChange}

@@ -3,11 +3,6 @@ use Rattle.std.specs.Prelude.{◌≡◌, List, ◌++◌, Option, Some, None, Res
 use Rattle.ps_changes.specs.declared.faults.ChangeFault.{ChangeFault}
 use Rattle.ps_changes.specs.declared.faults.ChangeFault.TheVariants.{LineTooLong, BadJson, BadShape, BadPosition, BadValue, Memory}
 
-infixl 10 ◌>>=◌
-abbrev pub ◌>>=◌ : {A B : Type 0} → Result A ChangeFault → (A → Result B ChangeFault) → Result B ChangeFault
-Ok x >>= f = f x
-Err fault >>= f = Err fault
-
 -- what is there, or else a fault
 abbrev pub or_fault : {A : Type 0} → ChangeFault → Option A → Result A ChangeFault
 or_fault fault (Some x) = Ok x

@@ -1,14 +1,11 @@
 -- Claims files: who asks.
 use Rattle.std.specs.Prelude.{ℕ, List, codes, Option, Some, None, option_and_then, is_some, if◌then◌else◌}
+use Rattle.ps_data.specs.OptionChains.{◌>>=◌}
 use Rattle.serde_json.specs.Data.{Data}
 use Rattle.serde_json.specs.Find.{get, as_str, as_object}
 use Rattle.ps_data.specs.Documents.{json_of}
 use Rattle.ps_queries.specs.declared.askers.Asker.{Asker}
 use Rattle.ps_token.specs.Payloads.{plain_text}
-
-infixl 10 ◌>>=◌
-abbrev pub ◌>>=◌ : {A B : Type 0} → Option A → (A → Option B) → Option B
-o >>= f = option_and_then f o
 
 -- the parameters' text: they are an object, or missing and then `{}`
 abbrev pub parameters_text : Option Data → Option (List ℕ)

@@ -2,6 +2,7 @@
 use Rattle.std.proofs.Common.{inl, ◌≡◌, ℕ, ◌<◌, ◌≤◌, false, true, List, Option, Some, Result, Ok, Err, refl, sym, ap, ◌∙◌, subst, arith, length, cond, ltb, Vec}
 use Rattle.std.proofs.lemmas.Bool.Decides.{nat_tests}
 use Rattle.std.specs.declared.alloc.Global.{Global}
+use Rattle.ps_data.specs.Chains.{◌>>=◌}
 use Rattle.ps_io.specs.Contents.{Contents, HasLength}
 use Rattle.ps_io.specs.Counts.{Rose}
 use Rattle.ps_rows.specs.declared.changes.Transaction.{Transaction}
@@ -27,7 +28,7 @@ use Rattle.ps_due_rows.specs.Dues.{due, own_buckets, rows_after}
 use Rattle.ps_due_rows.specs.FirstCopies.{fed_by}
 use Rattle.ps_due_rows.specs.Loading.{FindsRows, RefusesRows}
 use Rattle.ps_commands.specs.Commands.{Names, Inputs, rows, compact, command_of, Role, for_changes, limit_of, Given}
-use Rattle.ps_commands.specs.Meanings.{Refusal, refused, ◌>>=◌, or_refused, or_refused_as, or_none, prints}
+use Rattle.ps_commands.specs.Meanings.{Refusal, refused, or_refused, or_refused_as, or_none, prints}
 use Rattle.ps_commands.specs.Causes.{Means, Outside, Kept, Caused, reading, Finds}
 use Rattle.ps_commands.proofs.Readings.{ReadsRules, ReadsAsker, ReadsKeyFile}
 use Rattle.ps_commands.proofs.Nexts.{Reaches, means, exceeds, is_next, rows_left, fed_left, reports_left, at_changes, at_reports}

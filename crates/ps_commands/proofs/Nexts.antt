@@ -1,5 +1,6 @@
 -- The file of a command that comes next: what the command means hangs on it, once those before it are read.
 use Rattle.std.proofs.Common.{◌≡◌, ℕ, ◌<◌, List, [], ◌∷◌, ◌++◌, Option, Some, None, Result, Ok, Err, refl, ap, ◌∙◌}
+use Rattle.ps_data.specs.Chains.{◌>>=◌}
 use Rattle.ps_io.specs.Contents.{Contents, HasLength}
 use Rattle.ps_rows.specs.declared.changes.Transaction.{Transaction}
 use Rattle.ps_rows.specs.declared.shown.Shown.{Shown}
@@ -22,7 +23,7 @@ use Rattle.ps_due_rows.specs.Dues.{rows_after}
 use Rattle.ps_due_rows.specs.FirstCopies.{fed_by}
 use Rattle.ps_commands.specs.Auditing.{Recorded}
 use Rattle.ps_commands.specs.Commands.{Names, Inputs, Scripting, Signing, Recording, Command, check, rows, replay, compact, token, audit, command_of, Role, for_rules, for_next, for_keys, for_claims, for_changes, for_script, for_stream, limit_of, file, next_file, files_of, name_in, Given, in_role, without, FirstFits}
-use Rattle.ps_commands.specs.Meanings.{Refusal, missing, refused, ◌>>=◌, or_refused, or_refused_as, or_none, or_wide, within_limit, rules_in, fed_in, next_if, asker_in, all_in, rising_in, Meant, prints, plays, judges, token_text, meaning}
+use Rattle.ps_commands.specs.Meanings.{Refusal, missing, refused, or_refused, or_refused_as, or_none, or_wide, within_limit, rules_in, fed_in, next_if, asker_in, all_in, rising_in, Meant, prints, plays, judges, token_text, meaning}
 use Rattle.ps_commands.specs.Causes.{Means, IsNext}
 use Rattle.ps_commands.proofs.Readings.{completed, agree, given_in, as_long, too_long, ReadsRules, ReadsAsker, ReadsKeyFile, ReadsTransactions, ReadsRising, ReadsNext, next_bytes, rules_are, asker_is, keys_are, all_are, rising_are, next_is}
 

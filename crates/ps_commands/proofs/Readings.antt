@@ -3,6 +3,7 @@ use Rattle.std.proofs.Common.{◌≡◌, ℕ, ◌<◌, ◌≤◌, false, cond, L
 use lib.ListN.{length-replicate}
 use Rattle.std.proofs.lemmas.Bool.{le-leb}
 use Rattle.std.proofs.lemmas.Bool.Decides.{nat_tests}
+use Rattle.ps_data.specs.Chains.{◌>>=◌}
 use Rattle.ps_io.specs.Contents.{Contents, HasLength}
 use Rattle.ps_rows.specs.declared.changes.Transaction.{Transaction}
 use Rattle.ps_definitions.specs.RuleSets.{RuleSet}
@@ -16,7 +17,7 @@ use Rattle.ps_files.specs.ChangeFiles.{all_transactions_of, rising_transactions_
 use Rattle.ps_files.specs.HeldFiles.{rules_limit, file_limit, HoldsWithin}
 use Rattle.ps_files.specs.RulesFaults.{as_next, rules_of_file}
 use Rattle.ps_commands.specs.Commands.{Command, Role, for_rules, for_next, for_keys, for_claims, for_changes, for_script, for_stream, limit_of, files_of, name_in, Given, in_role, content_in, told, Agree}
-use Rattle.ps_commands.specs.Meanings.{Refusal, refused, ◌>>=◌, or_refused, or_refused_as, or_none, within_limit, rules_in, next_if, keys_in, asker_in, all_in, rising_in}
+use Rattle.ps_commands.specs.Meanings.{Refusal, refused, or_refused, or_refused_as, or_none, within_limit, rules_in, next_if, keys_in, asker_in, all_in, rising_in}
 
 -- ---- what is given
 

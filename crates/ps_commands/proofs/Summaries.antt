@@ -4,6 +4,7 @@ use Rattle.std.specs.Prelude.{nat_lt}
 use Rattle.std.specs.List.{list_any}
 use Rattle.std.proofs.lemmas.Bool.Decides.{nat_tests}
 use Rattle.std.specs.declared.alloc.Global.{Global}
+use Rattle.ps_data.specs.Chains.{◌>>=◌}
 use Rattle.ps_data.specs.Values.{is_null}
 use Rattle.ps_queries.specs.Meaning.{holds}
 use Rattle.ps_queries.specs.Vectors.{asked_of, vector_values}
@@ -20,7 +21,7 @@ use Rattle.ps_store.specs.Ledgers.{ledger_of}
 use Rattle.ps_store.specs.Limits.{usual_limits}
 use Rattle.ps_store.specs.Totals.{totals_of}
 use Rattle.ps_files.specs.declared.compacting.Compacted.{Compacted}
-use Rattle.ps_files.specs.ChangeFiles.{admitted, ◌>>=◌}
+use Rattle.ps_files.specs.ChangeFiles.{admitted}
 use Rattle.ps_files.specs.Committing.{committed_ledger}
 use Rattle.ps_files.specs.Compacting.{reports_of}
 use Rattle.ps_files.specs.MadeRules.{users, mine, made_rule_set, MadeRulesAreRead}

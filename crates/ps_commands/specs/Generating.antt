@@ -1,6 +1,7 @@
 -- What `generate` prints: a summary of made transactions, of one stream of them, and of their compaction.
 use Rattle.std.specs.Prelude.{ℕ, List, [], ◌++◌, length, codes, decimal, None, Result, Ok}
 use Rattle.std.specs.List.{sum_by}
+use Rattle.ps_data.specs.Chains.{◌>>=◌}
 use Rattle.ps_rows.specs.declared.changes.Transaction.{Transaction}
 use Rattle.ps_rows.specs.declared.shown.Shown.{Shown}
 use Rattle.ps_gen.specs.Made.{made_rules, made_input}
@@ -11,7 +12,7 @@ use Rattle.ps_store.specs.Laws.{last_position}
 use Rattle.ps_store.specs.Totals.{totals_of}
 use Rattle.ps_files.specs.declared.compacting.Compacted.{Compacted}
 use Rattle.ps_files.specs.declared.faults.Fault.{Fault}
-use Rattle.ps_files.specs.ChangeFiles.{admitted, ◌>>=◌}
+use Rattle.ps_files.specs.ChangeFiles.{admitted}
 use Rattle.ps_files.specs.Committing.{committed_ledger}
 use Rattle.ps_files.specs.Compacting.{reports_of}
 use Rattle.ps_files.specs.MadeRules.{made_rule_set}

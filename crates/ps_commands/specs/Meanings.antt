@@ -1,5 +1,6 @@
 -- What a command means over its files.
 use Rattle.std.specs.Prelude.{Bool, true, false, ℕ, ◌++◌, List, length, nat_le, codes, Option, Some, None, Result, Ok, Err, if◌then◌else◌}
+use Rattle.ps_data.specs.Chains.{◌>>=◌}
 use Rattle.ps_rows.specs.declared.changes.Transaction.{Transaction}
 use Rattle.ps_gen.specs.Made.{made_input}
 use Rattle.ps_definitions.specs.RuleSets.{RuleSet}
@@ -33,11 +34,6 @@ use Rattle.ps_commands.specs.Replaying.{Game}
 pub data Refusal : Type 0 where
   missing : Role → Refusal
   refused : Fault → Refusal
-
-infixl 10 ◌>>=◌
-abbrev pub ◌>>=◌ : {A B : Type 0} → Result A Refusal → (A → Result B Refusal) → Result B Refusal
-(Ok x) >>= f = f x
-(Err e) >>= f = Err e
 
 abbrev pub or_refused : {A : Type 0} → Result A Fault → Result A Refusal
 or_refused (Ok x) = Ok x

@@ -3,6 +3,7 @@ use Rattle.std.proofs.Common.{◌≡◌, ℕ, ◌+◌, ◌-◌, ◌≤◌, ◌<�
 use Rattle.std.specs.Prelude.{MatchOption}
 use Rattle.std.proofs.lemmas.Bool.{le-leb}
 use Rattle.std.proofs.lemmas.List.{take_all}
+use Rattle.ps_data.specs.Chains.{◌>>=◌}
 use Rattle.ps_rows.specs.declared.changes.Change.{Change as ChangeData}
 use Rattle.ps_rows.specs.declared.changes.Transaction.{Transaction}
 use Rattle.ps_definitions.specs.RuleSets.{RuleSet}
@@ -34,7 +35,6 @@ use Rattle.ps_files.specs.declared.faults.Fault.{Fault}
 use Rattle.ps_files.specs.declared.faults.Fault.TheVariants.{Usage, Rules, Change, PastLimit, TooManyBuckets, Claims, Keys, TooLong, CannotRead, CannotWrite, Script, Memory}
 use Rattle.ps_files.specs.declared.faults.Limit.{Limit}
 use Rattle.ps_files.specs.declared.faults.LineFault.TheVariants as line_faults
-use Rattle.ps_files.specs.ChangeFiles.{◌>>=◌}
 use Rattle.ps_files.specs.LineEnds.{next_number}
 use Rattle.ps_files.specs.ReadingChanges.{usual, HasCommitted, Writes, lines_left, bytes_left}
 use Rattle.ps_due_rows.specs.FirstCopies.{read_at, unless_stopped, passed_limit, within_limits, taken_at, copied_from, up_to, ended_at, first_copy_of}

@@ -1,5 +1,6 @@
 -- Files with a first copy of tables, beside change lines: docs/FORMATS.md, "First copies".
 use Rattle.std.specs.Prelude.{ℕ, ◌+◌, if◌then◌else◌, List, [], ◌∷◌, Option, Some, None, Result, Ok, Err}
+use Rattle.ps_data.specs.Chains.{◌>>=◌}
 use Rattle.ps_rows.specs.declared.changes.Transaction.{Transaction}
 use Rattle.ps_definitions.specs.RuleSets.{RuleSet}
 use Rattle.ps_file_lines.specs.Lines.{lines_of, is_blank}
@@ -13,7 +14,7 @@ use Rattle.ps_files.specs.declared.faults.Fault.TheVariants as faults
 use Rattle.ps_files.specs.declared.faults.Limit.{Limit}
 use Rattle.ps_files.specs.declared.faults.Limit.TheVariants.{LineBytes, Entries, Operations}
 use Rattle.ps_files.specs.declared.faults.LineFault.TheVariants as line_faults
-use Rattle.ps_files.specs.ChangeFiles.{transactions_of, ◌>>=◌}
+use Rattle.ps_files.specs.ChangeFiles.{transactions_of}
 use Rattle.ps_files.specs.LineEnds.{next_number}
 use Rattle.ps_files.specs.ReadingChanges.{usual}
 use Rattle.ps_due_rows.specs.declared.feedings.Feeding.{Feeding}

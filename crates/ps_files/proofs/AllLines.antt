@@ -2,6 +2,7 @@
 use Rattle.std.proofs.Common.{◌≡◌, ℕ, ◌+◌, ◌≤◌, true, false, List, [], ◌∷◌, ◌++◌, Option, Some, None, Result, Ok, Err, length, refl, ap, ◌∙◌, arith, Bor, Vec}
 use Rattle.std.proofs.lemmas.List.Elements.{All-nil, All-push}
 use Rattle.std.specs.declared.alloc.Global.{Global}
+use Rattle.ps_data.specs.Chains.{◌>>=◌}
 use Rattle.ps_rows.specs.declared.changes.Transaction.{Transaction}
 use Rattle.ps_changes.specs.declared.faults.ChangeFault.{ChangeFault}
 use Rattle.ps_changes.specs.declared.faults.ChangeFault.TheVariants as changes
@@ -11,7 +12,7 @@ use Rattle.ps_store.specs.Limits.{greatest}
 use Rattle.ps_files.specs.declared.faults.Fault.{Fault}
 use Rattle.ps_files.specs.declared.faults.Fault.TheVariants.{Usage, Rules, Change, PastLimit, TooManyBuckets, Claims, Keys, TooLong, CannotRead, CannotWrite, Script, Memory}
 use Rattle.ps_file_lines.specs.Lines.{is_blank}
-use Rattle.ps_files.specs.ChangeFiles.{numbered, line_fault, all_from, all_transactions_of, ◌>>=◌}
+use Rattle.ps_files.specs.ChangeFiles.{numbered, line_fault, all_from, all_transactions_of}
 use Rattle.ps_files.specs.ReadingAll.{HasRead, FindsTransactions, ReadsAll}
 use Rattle.ps_files.specs.ReadingChanges.{ReadsRising, lines_left, bytes_left}
 use Rattle.ps_files.proofs.Reaching.{SplitsLine, left_lines, fewer}

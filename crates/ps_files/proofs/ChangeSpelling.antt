@@ -6,6 +6,7 @@ use Rattle.std.proofs.lemmas.Bool.{cases_Bool}
 use Rattle.std.proofs.lemmas.Bool.Decides.{nat_tests, Decides-eqb}
 use Rattle.std.proofs.lemmas.List.Elements.{All-nil, All-cons}
 use Rattle.std.proofs.lemmas.List.Splits.{slice_split_at, slice_split_none}
+use Rattle.ps_data.specs.Chains.{◌>>=◌}
 use Rattle.ps_rows.specs.declared.changes.Transaction.{Transaction}
 use Rattle.ps_changes.specs.declared.faults.ChangeFault.{ChangeFault}
 use Rattle.ps_changes.specs.Lines.{line_of}
@@ -18,7 +19,7 @@ use Rattle.ps_store.specs.Ledgers.{timed_of}
 use Rattle.ps_store.specs.Originals.{timed}
 use Rattle.ps_files.specs.declared.faults.Fault.{Fault}
 use Rattle.ps_files.specs.declared.faults.Limit.{Limit}
-use Rattle.ps_files.specs.ChangeFiles.{◌>>=◌, rising, numbered, line_fault, first_passed, unless_passed, within_limits, accepted, transactions_from, transactions_of, all_from, all_transactions_of, admitted}
+use Rattle.ps_files.specs.ChangeFiles.{rising, numbered, line_fault, first_passed, unless_passed, within_limits, accepted, transactions_from, transactions_of, all_from, all_transactions_of, admitted}
 use Rattle.ps_files.specs.ChangeGrammar.{HasNoFeed, AreLines, last_line, next_line, Rises, AnyOrder, AreTransactions, no_lines, blank_line, one_line, IsFileOf, IsChangeFile, IsLooseFile}
 use Rattle.ps_files.proofs.Reaching.{last_more}
 

@@ -9,6 +9,7 @@ use Rattle.std.specs.BTreeSet.{insert_key}
 use Rattle.std.specs.FinMap.Entries.{find}
 use Rattle.std.proofs.lemmas.Bool.Decides.{nat_tests}
 use Rattle.std.proofs.lemmas.List.Concat.{flat_map-append}
+use Rattle.ps_data.specs.Chains.{◌>>=◌}
 use Rattle.ps_data.specs.declared.columns.Column.{Column}
 use Rattle.ps_data.specs.declared.values.Value.{Value}
 use Rattle.ps_queries.specs.Meaning.{holds}
@@ -27,7 +28,7 @@ use Rattle.ps_store.specs.Ledgers.{timed_of}
 use Rattle.ps_store.specs.Limits.{usual_limits}
 use Rattle.ps_store.specs.Originals.{Timed, timed, key_of, after, entries_at, columns_of, standing_entries, stays, leaving, numbered, removed, put, written, change_ops, ops_from}
 use Rattle.ps_files.specs.Making.{made_limit}
-use Rattle.ps_files.specs.ChangeFiles.{operations_of, passed_by, first_passed, unless_passed, CanBeFed, admitted, ◌>>=◌}
+use Rattle.ps_files.specs.ChangeFiles.{operations_of, passed_by, first_passed, unless_passed, CanBeFed, admitted}
 use Rattle.ps_files.specs.MadeRules.{planned_items, mine, made_rule_set}
 
 -- ---- lists

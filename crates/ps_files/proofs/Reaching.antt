@@ -2,6 +2,7 @@
 use Rattle.std.proofs.Common.{◌≡◌, ℕ, ◌+◌, ◌-◌, ◌<◌, ◌≤◌, Bool, true, false, cond, List, [], ◌∷◌, ◌++◌, Option, Some, None, Result, Ok, Err, length, take, drop, refl, sym, ap, ◌∙◌, arith, append_assoc, append-nil, length-append, length-take, min, subst, fold, ltb, leb, Bor}
 use Rattle.std.specs.Prelude.{MatchOption}
 use Rattle.std.proofs.lemmas.Bool.{ltb-true, le-leb}
+use Rattle.ps_data.specs.Chains.{◌>>=◌}
 use Rattle.ps_rows.specs.declared.changes.Change.{Change as ChangeData}
 use Rattle.ps_rows.specs.declared.changes.Transaction.{Transaction}
 use Rattle.ps_changes.specs.Lines.{line_of}
@@ -28,7 +29,7 @@ use Rattle.ps_files.specs.declared.faults.Limit.{Limit}
 use Rattle.ps_files.specs.declared.faults.Limit.TheVariants.{Entries, Operations}
 use Rattle.ps_files.specs.declared.faults.LineFault.TheVariants.{NotRising}
 use Rattle.ps_file_lines.specs.Lines.{lines_of, is_blank}
-use Rattle.ps_files.specs.ChangeFiles.{rising, passed_by, first_passed, first_of, unless_passed, within_limits, accepted, transactions_from, transactions_of, ◌>>=◌}
+use Rattle.ps_files.specs.ChangeFiles.{rising, passed_by, first_passed, first_of, unless_passed, within_limits, accepted, transactions_from, transactions_of}
 use Rattle.ps_files.specs.ReadingChanges.{usual, IsPlain, IsPending, HasCommitted, HasWritten, WritesSome, WritesAll, TakesLine, Writes, ReadsRising, lines_left, bytes_left}
 use Rattle.ps_files.specs.Committing.{writes, committing, history_of}
 use Rattle.ps_files.proofs.Committing.{writes_more, history_more}

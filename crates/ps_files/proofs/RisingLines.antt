@@ -1,13 +1,14 @@
 -- How far the lines of a change file whose positions rise have been read.
 use Rattle.std.proofs.Common.{◌≡◌, ℕ, ◌+◌, ◌<◌, ◌≤◌, true, false, List, [], ◌∷◌, ◌++◌, Option, Some, None, Result, Ok, Err, length, refl, sym, ap, ◌∙◌, arith, subst, Bor, Vec}
 use Rattle.std.specs.declared.alloc.Global.{Global}
+use Rattle.ps_data.specs.Chains.{◌>>=◌}
 use Rattle.ps_rows.specs.declared.changes.Transaction.{Transaction}
 use Rattle.ps_changes.specs.Lines.{line_of}
 use Rattle.ps_store.specs.Laws.{Rises, last_position}
 use Rattle.ps_files.specs.declared.faults.Fault.{Fault}
 use Rattle.ps_files.specs.declared.faults.Fault.TheVariants.{Usage, Rules, Change, PastLimit, TooManyBuckets, Claims, Keys, TooLong, CannotRead, CannotWrite, Script, Memory}
 use Rattle.ps_file_lines.specs.Lines.{is_blank}
-use Rattle.ps_files.specs.ChangeFiles.{rising, rising_from, rising_transactions_of, ◌>>=◌}
+use Rattle.ps_files.specs.ChangeFiles.{rising, rising_from, rising_transactions_of}
 use Rattle.ps_files.specs.ReadingChanges.{ReadsRising, lines_left, bytes_left}
 use Rattle.ps_files.specs.ReadingRising.{HasRisen, FindsRising, ReadsAllRising}
 use Rattle.ps_files.proofs.Reaching.{SplitsLine, left_lines, fewer, last_more, past_last}

@@ -1,5 +1,6 @@
 -- Transactions, written one after another.
 use Rattle.std.proofs.Common.{◌≡◌, ◌<◌, ◌≤◌, List, [], ◌∷◌, ◌++◌, Option, Some, None, Result, Ok, Err, refl, sym, ap, ◌∙◌, subst}
+use Rattle.ps_data.specs.Chains.{◌>>=◌}
 use Rattle.ps_rows.specs.declared.changes.Transaction.{Transaction}
 use Rattle.ps_definitions.specs.RuleSets.{RuleSet}
 use Rattle.ps_store.specs.declared.stores.Store.{Store}
@@ -9,7 +10,7 @@ use Rattle.ps_store.specs.Stores.{StoreStandsFor}
 use Rattle.ps_files.specs.declared.faults.Fault.{Fault}
 use Rattle.ps_files.specs.declared.faults.Fault.TheVariants.{Usage, Rules, Change, PastLimit, TooManyBuckets, Claims, Keys, TooLong, CannotRead, CannotWrite, Script, Memory}
 use Rattle.ps_files.specs.declared.faults.Limit.{Limit}
-use Rattle.ps_files.specs.ChangeFiles.{CanBeFed, admitted, unless_passed, within_limits, ◌>>=◌}
+use Rattle.ps_files.specs.ChangeFiles.{CanBeFed, admitted, unless_passed, within_limits}
 use Rattle.ps_files.specs.ReadingChanges.{usual, HasCommitted, TakesLine, Writes}
 use Rattle.ps_files.proofs.Reaching.{last_more}
 

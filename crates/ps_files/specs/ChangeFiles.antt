@@ -1,5 +1,6 @@
 -- Files of change lines.
 use Rattle.std.specs.Prelude.{ℕ, ◌<◌, ◌≤◌, ◌+◌, nat_lt, if◌then◌else◌, List, [], ◌∷◌, ◌++◌, length, Option, Some, None, Result, Ok, Err}
+use Rattle.ps_data.specs.Chains.{◌>>=◌}
 use Rattle.ps_rows.specs.declared.changes.Transaction.{Transaction}
 use Rattle.ps_changes.specs.declared.faults.ChangeFault.{ChangeFault}
 use Rattle.ps_changes.specs.declared.faults.ChangeFault.TheVariants.{LineTooLong, BadJson, BadShape, BadPosition, BadValue, Memory}
@@ -16,11 +17,6 @@ use Rattle.ps_files.specs.declared.faults.Fault.TheVariants as faults
 use Rattle.ps_files.specs.declared.faults.Limit.{Limit}
 use Rattle.ps_files.specs.declared.faults.Limit.TheVariants.{LineBytes, Entries, Operations}
 use Rattle.ps_files.specs.declared.faults.LineFault.TheVariants as line_faults
-
-infixl 10 ◌>>=◌
-abbrev pub ◌>>=◌ : {A B : Type 0} → Result A Fault → (A → Result B Fault) → Result B Fault
-(Ok x) >>= f = f x
-(Err e) >>= f = Err e
 
 -- ---- one line by itself
 

@@ -1,5 +1,6 @@
 -- Records, and the JSON that stands for them: docs/FORMATS.md, "The journal".
 use Rattle.std.specs.Prelude.{◌≡◌, ℕ, ◌≤◌, List, [], ◌∷◌, codes, decimal, Option, Some, None, option_and_then, Result, Ok, Err}
+use Rattle.ps_data.specs.OptionChains.{◌>>=◌}
 use Rattle.serde_json.specs.Data.{Data as Json, string, object, no_members, member}
 use Rattle.serde_json.specs.Find.{get, as_str}
 use Rattle.serde_json.specs.Written.{compact_text}
@@ -36,11 +37,6 @@ unfoldable pub body_of : Record → List ℕ
 body_of entry = compact_text (record_json entry)
 
 -- ---- read
-
-infixl 10 ◌>>=◌
-abbrev pub ◌>>=◌ : {A B : Type 0} → Option A → (A → Option B) → Option B
-Some x >>= f = f x
-None >>= f = None
 
 abbrev pub text_in : List ℕ → Json → Option (List ℕ)
 text_in name d = option_and_then as_str (get name d)

@@ -7,13 +7,14 @@ use Rattle.ps_yaml.specs.declared.nodes.Pair.{Pair}
 use Rattle.ps_rules.specs.declared.drafts.Draft.{Draft}
 use Rattle.ps_rules.specs.declared.drafts.Parts.{Parts}
 use Rattle.ps_rules.specs.declared.faults.RulesFault.{RulesFault}
-use Rattle.ps_rules.specs.Faults.{◌>>=◌, refuse}
+use Rattle.ps_rules.specs.Faults.{refuse}
 use Rattle.ps_definitions.specs.Names.{is_in, has_repeated, is_definition_name}
 use Rattle.ps_rules.specs.Shapes.{pairs_of, has_name, shape_fault, pair_fault, parts_of, no_parts, draft_of, draft_with, draft_names, drafts_from, definitions_of, sections_of, drafts_of}
 use Rattle.ps_rules.specs.Drafts.{AreDrafts}
 use Rattle.ps_rules.proofs.Steps.{past, both_ok, same_ok}
 use Rattle.ps_rules.proofs.NameLaws.{repeated_more}
 use Rattle.std.proofs.lemmas.List.{map-append}
+use Rattle.ps_data.specs.Chains.{◌>>=◌}
 
 left_false : (a b : Bool) → (a || b) ≡ false → a ≡ false
 left_false false b h = refl

@@ -22,7 +22,7 @@ use Rattle.ps_definitions.specs.declared.definitions.Definition.{Definition}
 use Rattle.ps_definitions.specs.declared.warnings.Warning.{Warning}
 use Rattle.ps_rules.specs.declared.faults.RulesFault.{RulesFault}
 use Rattle.ps_rules.specs.declared.faults.RulesFault.TheVariants as faults
-use Rattle.ps_rules.specs.Faults.{◌>>=◌, refuse, sql, Reads}
+use Rattle.ps_rules.specs.Faults.{refuse, sql, Reads}
 use Rattle.ps_definitions.specs.Names.{is_in, has_repeated, same_names, output_names}
 use Rattle.ps_definitions.specs.Branches.{branches_of}
 use Rattle.ps_rules.specs.Shapes.{Layer, layer_pairs, pairs_of, layer_written, written_of, all_written, layer_queries, queries_of, is_empty_scalar, data_of, part_of, parts_of, no_parts, has_name, shape_fault, pair_fault, draft_of, draft_with, draft_names, drafts_from, definitions_of, sections_of, drafts_of}
@@ -36,6 +36,7 @@ use Rattle.ps_rules.proofs.Kept.{append_nil, was_read, same_self, not_false}
 use Rattle.ps_rules.proofs.Drafted.{definitions_are}
 use Rattle.ps_rules.proofs.NameLaws.{repeated_more}
 use Rattle.std.proofs.lemmas.List.{map-append}
+use Rattle.ps_data.specs.Chains.{◌>>=◌}
 
 same_name : (a b : List ℕ) → bytes_eq a b ≡ true → a ≡ b
 same_name a b = (bytes_eq-Decides a b).0

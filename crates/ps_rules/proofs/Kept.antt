@@ -18,7 +18,7 @@ use Rattle.ps_definitions.specs.declared.queries.Planned.{Planned}
 use Rattle.ps_definitions.specs.declared.definitions.Definition.{Definition}
 use Rattle.ps_rules.specs.declared.faults.RulesFault.{RulesFault}
 use Rattle.ps_rules.specs.declared.faults.RulesFault.TheVariants as faults
-use Rattle.ps_rules.specs.Faults.{◌>>=◌, refuse, sql}
+use Rattle.ps_rules.specs.Faults.{refuse, sql}
 use Rattle.ps_definitions.specs.Names.{is_in, are_in, has_repeated, same_names, output_names, is_definition_name}
 use Rattle.ps_definitions.specs.Branches.{branches_of}
 use Rattle.ps_rules.specs.Shapes.{draft_names}
@@ -30,6 +30,7 @@ use Rattle.ps_rules.specs.Drafts.{AreDrafts}
 use Rattle.ps_rules.proofs.Steps.{past, both_ok, same_ok}
 use Rattle.std.proofs.lemmas.List.{map-append}
 use Rattle.std.proofs.lemmas.Grind.{flat_map-append}
+use Rattle.ps_data.specs.Chains.{◌>>=◌}
 
 -- ---- facts of each item
 

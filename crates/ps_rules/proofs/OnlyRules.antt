@@ -17,7 +17,7 @@ use Rattle.ps_definitions.specs.declared.definitions.Definition.{Definition}
 use Rattle.ps_definitions.specs.declared.warnings.Warning.{Warning}
 use Rattle.ps_rules.specs.declared.faults.RulesFault.{RulesFault}
 use Rattle.ps_rules.specs.declared.faults.RulesFault.TheVariants as faults
-use Rattle.ps_rules.specs.Faults.{◌>>=◌, refuse, sql, Reads}
+use Rattle.ps_rules.specs.Faults.{refuse, sql, Reads}
 use Rattle.ps_definitions.specs.Names.{is_in, has_repeated, same_names, output_names, is_definition_name}
 use Rattle.ps_definitions.specs.Branches.{branches_of}
 use Rattle.ps_rules.specs.Shapes.{layer_pairs, layer_written, written_of, all_written, layer_queries, queries_of, data_of, part_of, parts_of, no_parts, has_name, shape_fault, pair_fault, draft_of, draft_with, draft_names, drafts_from, definitions_of, sections_of, drafts_of}
@@ -31,6 +31,7 @@ use Rattle.ps_rules.proofs.Kept.{append_nil}
 use Rattle.ps_rules.proofs.Steps.{same_ok}
 use Rattle.ps_rules.proofs.NameLaws.{repeated_more, names_front}
 use Rattle.std.proofs.lemmas.List.{map-append}
+use Rattle.ps_data.specs.Chains.{◌>>=◌}
 
 -- a step that went well is passed
 on : {A B : Type 0} {r : Result A RulesFault} {x : A} (f : A → Result B RulesFault) → r ≡ Ok x → (r >>= f) ≡ f x

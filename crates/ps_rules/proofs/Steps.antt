@@ -1,7 +1,8 @@
 -- What a reading that went well had to pass.
 use Rattle.std.proofs.Common.{◌≡◌, Bool, true, false, refl, Result, Ok, Err}
+use Rattle.ps_data.specs.Chains.{◌>>=◌}
 use Rattle.ps_rules.specs.declared.faults.RulesFault.{RulesFault}
-use Rattle.ps_rules.specs.Faults.{◌>>=◌, refuse}
+use Rattle.ps_rules.specs.Faults.{refuse}
 
 -- a test that refuses was not met
 pub past : {B : Type 0} (test : Bool) (fault : RulesFault) (f : Unit {0} → Result B RulesFault) (x : B) → (refuse test fault >>= f) ≡ Ok x → (test ≡ false) × (f tt ≡ Ok x)

@@ -1,5 +1,6 @@
 -- The checks of each definition: parameter queries before data queries, each query at its scalar.
 use Rattle.std.specs.Prelude.{ℕ, ◌+◌, Bool, false, not, ◌==◌, if◌then◌else◌, List, [], ◌∷◌, ◌++◌, length, Result, Ok, Err}
+use Rattle.ps_data.specs.Chains.{◌>>=◌}
 use Rattle.ps_queries.specs.declared.queries.ParameterQuery.{ParameterQuery}
 use Rattle.ps_queries.specs.declared.queries.DataQuery.{DataQuery}
 use Rattle.ps_sql.specs.Readings.{parameter_query_of, data_query_of}
@@ -13,7 +14,7 @@ use Rattle.ps_definitions.specs.declared.warnings.Warning.{Warning}
 use Rattle.ps_definitions.specs.declared.warnings.WarningKind.TheVariants as kinds
 use Rattle.ps_rules.specs.declared.faults.RulesFault.{RulesFault}
 use Rattle.ps_rules.specs.declared.faults.RulesFault.TheVariants as faults
-use Rattle.ps_rules.specs.Faults.{◌>>=◌, refuse, sql}
+use Rattle.ps_rules.specs.Faults.{refuse, sql}
 use Rattle.ps_definitions.specs.Names.{has_repeated, same_names, output_names}
 use Rattle.ps_definitions.specs.Branches.{asks_parameters, branches_of}
 use Rattle.ps_definitions.specs.Checks.{some_expr, names_of, has_no_id, has_unknown, has_many_branches, is_matched}

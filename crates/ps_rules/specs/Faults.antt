@@ -6,11 +6,6 @@ use Rattle.ps_yaml.specs.declared.faults.YamlFault.{YamlFault}
 use Rattle.ps_rules.specs.declared.faults.RulesFault.{RulesFault}
 use Rattle.ps_rules.specs.declared.faults.RulesFault.TheVariants as faults
 
-infixl 10 ◌>>=◌
-abbrev pub ◌>>=◌ : {A B : Type 0} → Result A RulesFault → (A → Result B RulesFault) → Result B RulesFault
-(Ok x) >>= f = f x
-(Err fault) >>= f = Err fault
-
 -- a test that refuses
 abbrev pub refuse : Bool → RulesFault → Result (Unit {0}) RulesFault
 refuse test fault = if test then Err fault else Ok tt

@@ -1,11 +1,12 @@
 -- The rules of a text, or its first fault: that of the YAML, of the document's shape, and then of the checks.
 use Rattle.std.specs.Prelude.{ℕ, ◌+◌, List, [], ◌∷◌, ◌++◌, length, Result, Ok}
+use Rattle.ps_data.specs.Chains.{◌>>=◌}
 use Rattle.ps_yaml.specs.declared.nodes.Node.{Node}
 use Rattle.ps_yaml.specs.Trees.{document_of}
 use Rattle.ps_rules.specs.declared.drafts.Draft.{Draft}
 use Rattle.ps_rules.specs.declared.drafts.Checked.{Checked}
 use Rattle.ps_rules.specs.declared.faults.RulesFault.{RulesFault}
-use Rattle.ps_rules.specs.Faults.{◌>>=◌, yaml}
+use Rattle.ps_rules.specs.Faults.{yaml}
 use Rattle.ps_rules.specs.Shapes.{drafts_of}
 use Rattle.ps_rules.specs.Checks.{checked_of}
 use Rattle.ps_definitions.specs.RuleSets.{RuleSet}

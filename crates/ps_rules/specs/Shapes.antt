@@ -1,6 +1,7 @@
 -- The shape of a rules document: its definitions with the texts of their queries, or the first place that has no such shape.
 use Rattle.std.specs.Prelude.{ℕ, Bool, false, not, ◌||◌, ◌==◌, if◌then◌else◌, List, [], ◌∷◌, ◌++◌, map, length, Result, Ok, Err, bytes_eq, codes}
 use Rattle.std.specs.List.{list_any}
+use Rattle.ps_data.specs.Chains.{◌>>=◌}
 use Rattle.ps_yaml.specs.declared.nodes.Node.{Node, Node-F, out-Node}
 use Rattle.ps_yaml.specs.declared.nodes.Node.TheOpen as layers
 use Rattle.ps_yaml.specs.declared.nodes.Pair.{Pair}
@@ -9,7 +10,7 @@ use Rattle.ps_rules.specs.declared.drafts.Parts.{Parts}
 use Rattle.ps_rules.specs.declared.drafts.Draft.{Draft}
 use Rattle.ps_rules.specs.declared.faults.RulesFault.{RulesFault}
 use Rattle.ps_rules.specs.declared.faults.RulesFault.TheVariants as faults
-use Rattle.ps_rules.specs.Faults.{◌>>=◌, refuse}
+use Rattle.ps_rules.specs.Faults.{refuse}
 use Rattle.ps_definitions.specs.Names.{is_in, is_definition_name}
 
 -- a node with its parts

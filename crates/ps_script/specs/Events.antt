@@ -1,5 +1,6 @@
 -- The event that a line is, if it is one: docs/FORMATS.md, "Scripts".
-use Rattle.std.specs.Prelude.{◌≡◌, ℕ, List, codes, bytes_eq, if◌then◌else◌, Option, Some, None, option_map, option_and_then, Result, Ok, Err, ◌↔◌}
+use Rattle.std.specs.Prelude.{◌≡◌, ℕ, List, codes, bytes_eq, if◌then◌else◌, Option, Some, None, option_map, Result, Ok, Err, ◌↔◌}
+use Rattle.ps_data.specs.OptionChains.{◌>>=◌}
 use Rattle.ps_changes.specs.Lines.{lone_change_of}
 use Rattle.ps_rows.specs.declared.changes.Change.{Change}
 use Rattle.ps_changes.specs.declared.faults.ChangeFault.{ChangeFault}
@@ -11,10 +12,6 @@ use Rattle.ps_script.specs.Grammar.{IsEvent}
 use Rattle.ps_script.specs.Verbs.{verb_of, event_by}
 use Rattle.ps_file_lines.specs.Cuts.{cut}
 use Rattle.ps_script.specs.Words.{text_of, count_of, name_of}
-
-infixl 10 ◌>>=◌
-abbrev pub ◌>>=◌ : {A B : Type 0} → Option A → (A → Option B) → Option B
-o >>= f = option_and_then f o
 
 abbrev pub read_or_none : Result Change ChangeFault → Option Change
 read_or_none (Ok change) = Some change

@@ -2,6 +2,7 @@
 use Rattle.std.proofs.Common.{◌≡◌, ℕ, ◌⊎◌, inl, inr, List, [], Option, Some, None, Ok, Err, Bool, true, false, refl, sym, ap, subst, ◌∙◌}
 use Rattle.std.specs.Prelude.{Result, bytes_eq, codes, length}
 use Rattle.std.proofs.lemmas.List.{append-nil}
+use Rattle.ps_data.specs.Chains.{◌>>=◌}
 use Rattle.ps_io.specs.Sources.{Input, Gives}
 use Rattle.ps_lines.specs.declared.bodies.StreamBody.{StreamBody}
 use Rattle.ps_lines.specs.Bodies as lines
@@ -18,7 +19,7 @@ use Rattle.ps_serve.specs.declared.refusals.Refusal.{Refusal}
 use Rattle.ps_serve.specs.declared.refusals.Refusal.TheVariants.{Cut, BadRequest, Unauthorized, NotFound, NotAllowed, Conflict, LengthRequired, TooLarge, TooManyBuckets, Memory}
 use Rattle.ps_serve.specs.declared.ways.Way.{Way}
 use Rattle.ps_serve.specs.declared.ways.Way.TheVariants.{Number}
-use Rattle.ps_serve.specs.Refusals.{◌>>=◌, or_refusal, holds, or_bad, Reads, ReadsOr}
+use Rattle.ps_serve.specs.Refusals.{or_refusal, holds, or_bad, Reads, ReadsOr}
 use Rattle.ps_serve.specs.Requests.{HasToken, IsOpen, way_of, method_of, token_in, admitted, verified, stated, length_for, length_of, stream_for, asked_stream, asked_number, asked_for, asked_of}
 use Rattle.ps_serve.specs.Reading.{HasBody, IsBehind, AsksBehind, count_of}
 

@@ -66,11 +66,6 @@ refusal_of_change changes.Memory = Memory
 
 -- ---- one step after another
 
-infixl 10 ◌>>=◌
-abbrev pub ◌>>=◌ : {A B : Type 0} → Result A Refusal → (A → Result B Refusal) → Result B Refusal
-Ok x >>= f = f x
-Err refusal >>= f = Err refusal
-
 -- what is there, or else a refusal
 abbrev pub or_refusal : {A : Type 0} → Refusal → Option A → Result A Refusal
 or_refusal refusal (Some x) = Ok x

@@ -1,6 +1,7 @@
 -- What a request asks for, or the first refusal: a function of its head, its body and the moment at which its token is verified.
 use Rattle.std.specs.Prelude.{◌≡◌, ℕ, true, nat_eq, nat_lt, List, codes, bytes_eq, drop, Option, Some, None, Result, Ok, Err, if◌then◌else◌, ◌<◌, length, All}
 use Rattle.std.specs.List.{starts_with}
+use Rattle.ps_data.specs.Chains.{◌>>=◌}
 use Rattle.ps_rows.specs.declared.changes.Change.{Change}
 use Rattle.ps_changes.specs.Lines as changes
 use Rattle.ps_http.specs.declared.heads.Head.{Head}
@@ -18,7 +19,7 @@ use Rattle.ps_serve.specs.declared.refusals.Refusal.{Refusal}
 use Rattle.ps_serve.specs.declared.refusals.Refusal.TheVariants.{BadRequest, Unauthorized, NotFound, NotAllowed, LengthRequired, TooLarge}
 use Rattle.ps_serve.specs.declared.ways.Way.{Way}
 use Rattle.ps_serve.specs.declared.ways.Way.TheVariants.{Stream, Number, Upload}
-use Rattle.ps_serve.specs.Refusals.{◌>>=◌, or_refusal, holds, or_bad}
+use Rattle.ps_serve.specs.Refusals.{or_refusal, holds, or_bad}
 
 -- ---- the path and its method
 

@@ -2,6 +2,7 @@
 use Rattle.std.proofs.Common.{◌≡◌, ℕ, ◌+◌, ◌≤◌, Bool, true, false, List, [], ◌∷◌, ◌++◌, Result, Ok, Err, refl, ap, subst, cond, ltb}
 use Rattle.std.specs.List.{All}
 use Rattle.std.proofs.lemmas.List.Elements.{All-nil, All-push}
+use Rattle.ps_data.specs.Chains.{◌>>=◌}
 use Rattle.ps_rows.specs.declared.changes.Transaction.{Transaction}
 use Rattle.ps_changes.specs.declared.faults.ChangeFault.{ChangeFault}
 use Rattle.ps_changes.specs.Laws.{ReadsLines}
@@ -12,7 +13,7 @@ use Rattle.ps_store.specs.Limits.{greatest}
 use Rattle.ps_files.specs.declared.faults.Fault.{Fault}
 use Rattle.ps_files.specs.declared.faults.Fault.TheVariants.{Change}
 use Rattle.ps_files.specs.declared.faults.LineFault.TheVariants.{NotRising}
-use Rattle.ps_files.specs.ChangeFiles.{rising, rising_from, rising_transactions_of, ◌>>=◌}
+use Rattle.ps_files.specs.ChangeFiles.{rising, rising_from, rising_transactions_of}
 
 abbrev IsLow : Transaction → Type 0
 IsLow t = t.position.0 ≤ greatest

@@ -2,6 +2,7 @@
 use Rattle.std.proofs.Common.{◌≡◌, ℕ, ◌<◌, ◌≤◌, Bool, true, false, cond, List, [], ◌∷◌, ◌++◌, Option, Some, None, Result, Ok, Err, refl, sym, ap, ◌∙◌, subst, arith, fold}
 use Rattle.std.specs.Prelude.{◌&&◌, not, is_some, nat_lt}
 use Rattle.std.proofs.lemmas.Bool.Decides.{nat_tests}
+use Rattle.ps_data.specs.Chains.{◌>>=◌}
 use Rattle.ps_rows.specs.declared.changes.Transaction.{Transaction}
 use Rattle.ps_store.specs.declared.fixed.Fixed.{Fixed}
 use Rattle.ps_store.specs.Ledgers.{head_of}
@@ -11,7 +12,7 @@ use Rattle.ps_snapshot.specs.declared.faults.Failure.{Failure}
 use Rattle.ps_snapshot.specs.declared.faults.Failure.TheVariants as failing
 use Rattle.ps_snapshot.specs.declared.faults.FillFault.{FillFault}
 use Rattle.ps_snapshot.specs.Types.{Chunk, Line, Begin, Rows, End, Changes, LineFault, LineTooLong, BadJson, BadShape, BadPosition, BadValue, BadChunk, NotRising, NotCovered, Memory}
-use Rattle.ps_snapshot.specs.Faults.{◌>>=◌, Reads, fault_of_failure, fault_of_line}
+use Rattle.ps_snapshot.specs.Faults.{Reads, fault_of_failure, fault_of_line}
 use Rattle.ps_snapshot.specs.FirstCopies.{FirstCopy, nothing, after_line, copy_of, puts_of, is_next_chunk, belongs, position_of, lacking, CanCome, AreInPlace}
 use Rattle.ps_snapshot.specs.Fillings.{Fills, HasFailed, IsFilling, Advances, Accepts, LeavesBehind, Takes}
 use Rattle.ps_snapshot.specs.Judging.{unless_open, judged, next_line}

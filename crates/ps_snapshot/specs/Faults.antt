@@ -8,11 +8,6 @@ use Rattle.ps_snapshot.specs.declared.faults.FillFault.{FillFault}
 use Rattle.ps_snapshot.specs.declared.faults.FillFault.TheVariants as filling
 use Rattle.ps_snapshot.specs.Types.{LineFault, LineTooLong, BadJson, BadShape, BadPosition, BadValue, BadChunk, NotRising, NotCovered, Memory}
 
-infixl 10 ◌>>=◌
-abbrev pub ◌>>=◌ : {A B : Type 0} → Result A LineFault → (A → Result B LineFault) → Result B LineFault
-Ok x >>= f = f x
-Err fault >>= f = Err fault
-
 -- what is there, or else a fault
 abbrev pub or_fault : {A : Type 0} → LineFault → Option A → Result A LineFault
 or_fault fault (Some x) = Ok x

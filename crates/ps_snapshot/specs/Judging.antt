@@ -1,7 +1,7 @@
 -- Whether a line may come next, and the first fault of one that may not.
 use Rattle.std.specs.Prelude.{ℕ, nat_lt, if◌then◌else◌, List, Option, Some, None, Result, Ok, Err}
+use Rattle.ps_data.specs.Chains.{◌>>=◌}
 use Rattle.ps_snapshot.specs.Types.{Line, LineFault, BadChunk, NotRising, NotCovered}
-use Rattle.ps_snapshot.specs.Faults.{◌>>=◌}
 use Rattle.ps_snapshot.specs.FirstCopies.{FirstCopy, belongs, position_of, first_open, lacking}
 use Rattle.ps_snapshot.specs.Reading.{line_of}
 

@@ -2,6 +2,7 @@
 use Rattle.std.proofs.Common.{◌≡◌, ℕ, pos, Bool, true, false, cond, List, [], ◌∷◌, ◌++◌, length, Option, Some, None, refl, sym, ap, ◌∙◌, map, subst}
 use Rattle.std.specs.Prelude.{Result, Ok, Err, ◌||◌, not, codes}
 use Rattle.std.specs.List.{list_any}
+use Rattle.ps_data.specs.Chains.{◌>>=◌}
 use Rattle.ps_sql.specs.declared.words.Lexeme.{Lexeme}
 use Rattle.ps_queries.specs.declared.expressions.Expr.{Expr, fold-roll-Expr}
 use Rattle.ps_queries.specs.declared.expressions.Expr.TheOpen as layers
@@ -17,7 +18,6 @@ use Rattle.ps_sql.specs.declared.contexts.Listed.{Listed}
 use Rattle.ps_queries.specs.declared.subjects.Subject.{Subject}
 use Rattle.ps_queries.specs.declared.subjects.Subject.TheVariants as subjects
 use Rattle.ps_sql.specs.Words.{same_word}
-use Rattle.ps_sql.specs.Inputs.{◌>>=◌}
 use Rattle.ps_sql.specs.Grammar.{request_value}
 use Rattle.ps_sql.specs.Answers.{input_of}
 use Rattle.ps_sql.specs.Queries.{parameter_query, data_query}

@@ -1,6 +1,7 @@
 -- The grammar's faults are never a bad token's: those are answered before it.
 use Rattle.std.proofs.Common.{ℕ, zero, suc, Bool, true, false, cond, eqb, List, [], ◌∷◌, ◌++◌, length, Option, Some, None}
 use Rattle.std.specs.Prelude.{Result, Ok, Err, ◌&&◌, ◌||◌, not, is_some, bytes_eq, codes}
+use Rattle.ps_data.specs.Chains.{◌>>=◌}
 use Rattle.ps_sql.specs.declared.words.Word.{Word}
 use Rattle.ps_sql.specs.declared.words.Word.TheVariants as words
 use Rattle.ps_sql.specs.declared.words.Keyword.{Keyword}
@@ -20,7 +21,7 @@ use Rattle.ps_sql.specs.declared.contexts.Level.TheVariants as levels
 use Rattle.ps_sql.specs.declared.contexts.Step.{Step}
 use Rattle.ps_sql.specs.declared.contexts.Step.TheVariants as steps
 use Rattle.ps_sql.specs.Words.{same_word}
-use Rattle.ps_sql.specs.Inputs.{Input, ◌>>=◌, next, second, third, fourth, here, past, is_mark, is_keyword, name_of, plain_name_of, same_mark, refusal, named_or, expect_mark, expect_keyword, expect_name}
+use Rattle.ps_sql.specs.Inputs.{Input, next, second, third, fourth, here, past, is_mark, is_keyword, name_of, plain_name_of, same_mark, refusal, named_or, expect_mark, expect_keyword, expect_name}
 use Rattle.ps_sql.specs.Grammar.{Reader, allows_column, allows_qualifier, column, qualified, qualified_by, bucket, bucket_by, request, request_by, request_value, request_or, token_user, token_or, dotted, quoted_name, function_of, arity, more_arguments, arguments, called, call_by, named_value, plain_name, type_by, cast, keyword_value, negative_by, bracketed, mark_value, prime_by, prime, operator_at, null_test, is_same, step_by, step, go_on, more, chain, negation, is_arithmetic, whole, expr}
 use Rattle.ps_sql.specs.Queries.{name_without_as, own_or, output_name, anywhere, name_anywhere, output_of, output, item, items, outputs, nothing_listed, begins_clause, condition, behind_semicolon, finish, table_clause, scope_of, parameters_of, data_of, parameter_query, alias_by, alias, source, data_query}
 

@@ -4,6 +4,7 @@ use Rattle.std.specs.Prelude.{Result, Ok, Err, ◌&&◌, not, bytes_eq, codes}
 use Rattle.std.proofs.lemmas.Option.{same_Some}
 use Rattle.std.proofs.lemmas.Slice.Eq.{bytes_eq-Decides}
 use Rattle.std.proofs.lemmas.Bool.Decides.{nat_tests}
+use Rattle.ps_data.specs.Chains.{◌>>=◌}
 use Rattle.ps_sql.specs.declared.words.Word.{Word}
 use Rattle.ps_sql.specs.declared.words.Word.TheVariants as words
 use Rattle.ps_sql.specs.declared.words.Keyword.{Keyword}
@@ -24,7 +25,7 @@ use Rattle.ps_sql.specs.declared.contexts.Level.TheVariants as levels
 use Rattle.ps_sql.specs.declared.contexts.Step.{Step}
 use Rattle.ps_sql.specs.declared.contexts.Step.TheVariants as steps
 use Rattle.ps_sql.specs.Words.{same_word}
-use Rattle.ps_sql.specs.Inputs.{Input, ◌>>=◌, first_word, next, second, third, fourth, here, past, is_mark, is_keyword, name_of, name_in, plain_name_of, plain_name_in, refusal, same_mark, same_keyword, number_of_mark, number_of_keyword, mark_in, keyword_in, expect_mark, expect_keyword}
+use Rattle.ps_sql.specs.Inputs.{Input, first_word, next, second, third, fourth, here, past, is_mark, is_keyword, name_of, name_in, plain_name_of, plain_name_in, refusal, same_mark, same_keyword, number_of_mark, number_of_keyword, mark_in, keyword_in, expect_mark, expect_keyword}
 use Rattle.ps_sql.specs.Grammar.{Reader, allows_column, allows_qualifier, column, qualified, qualified_by, bucket, bucket_by, request, request_by, request_or, request_value, token_user, token_or, dotted, quoted_name, function_of, arity, more_arguments, arguments, called, call_by, named_value, plain_name, type_by, cast, keyword_value, opposite, negative_by, bracketed, mark_value, prime_by, prime, operator_of_keyword, operator_of_mark, operator_by, operator_at, null_test, is_same, step_by, step, go_on, more, chain, negation, is_arithmetic, whole, expr}
 use Rattle.ps_sql.specs.Spelled.{Rule, level, negation as not_rule, primary, expression, side, is_taken, sign_of, level_of, Spells, alone, between, is_null, is_not_null, not_negated, negated, number, negative, text, null, true_word, false_word, column as column_spelled, qualified as qualified_spelled, bucket as bucket_spelled, request as request_spelled, token_user as token_user_spelled, call, cast as cast_spelled, brackets, AreArguments, first, further}
 use Rattle.ps_sql.proofs.Cuts.{chosen}

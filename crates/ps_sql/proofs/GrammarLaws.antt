@@ -1,6 +1,7 @@
 -- The turns of the readings that count down.
 use Rattle.std.proofs.Common.{◌≡◌, ℕ, zero, suc, ◌-◌, ◌<◌, List, [], ◌∷◌, ◌++◌, refl, ap, sym, ◌∙◌, arith}
 use Rattle.std.specs.Prelude.{Result, Ok, Err, if◌then◌else◌}
+use Rattle.ps_data.specs.Chains.{◌>>=◌}
 use Rattle.ps_queries.specs.declared.expressions.Expr.{Expr}
 use Rattle.ps_queries.specs.declared.expressions.Expr.TheVariants as exprs
 use Rattle.ps_sql.specs.declared.faults.SqlFault.{SqlFault}
@@ -9,7 +10,7 @@ use Rattle.ps_sql.specs.declared.words.Keyword.TheVariants as keywords
 use Rattle.ps_sql.specs.declared.words.Mark.TheVariants as marks
 use Rattle.ps_sql.specs.declared.contexts.Context.{Context}
 use Rattle.ps_sql.specs.declared.contexts.Level.{Level}
-use Rattle.ps_sql.specs.Inputs.{Input, ◌>>=◌, next, second, here, past, is_mark, is_keyword, plain_name_of, refusal, expect_mark, expect_keyword}
+use Rattle.ps_sql.specs.Inputs.{Input, next, second, here, past, is_mark, is_keyword, plain_name_of, refusal, expect_mark, expect_keyword}
 use Rattle.ps_sql.specs.Grammar.{Reader, type_by, as_text, casted, cast, expr, whole, negation, more, more_arguments, step, go_on}
 
 -- steps, one behind the other

@@ -2,6 +2,7 @@
 use Rattle.std.proofs.Common.{◌≡◌, ℕ, zero, suc, pos, ◌+◌, ◌-◌, ◌<◌, ◌≤◌, Bool, true, false, cond, eqb, List, [], ◌∷◌, ◌++◌, length, Option, Some, None, refl, sym, ap, ◌∙◌, arith, append_assoc, length-append}
 use Rattle.std.specs.Prelude.{Result, Ok, Err, ◌&&◌, ◌||◌, not, is_some, bytes_eq, codes}
 use Rattle.std.proofs.lemmas.Option.{same_Some}
+use Rattle.ps_data.specs.Chains.{◌>>=◌}
 use Rattle.ps_sql.specs.declared.words.Word.{Word}
 use Rattle.ps_sql.specs.declared.words.Word.TheVariants as words
 use Rattle.ps_sql.specs.declared.words.Keyword.{Keyword}
@@ -21,7 +22,7 @@ use Rattle.ps_sql.specs.declared.contexts.Level.{Level}
 use Rattle.ps_sql.specs.declared.contexts.Level.TheVariants as levels
 use Rattle.ps_sql.specs.declared.contexts.Step.TheVariants as steps
 use Rattle.ps_sql.specs.Words.{same_word}
-use Rattle.ps_sql.specs.Inputs.{Input, ◌>>=◌, first_word, next, second, third, fourth, here, is_mark, is_keyword, name_of, name_in, plain_name_of, plain_name_in, same_mark, same_keyword, mark_in, keyword_in, expect_mark, expect_keyword}
+use Rattle.ps_sql.specs.Inputs.{Input, first_word, next, second, third, fourth, here, is_mark, is_keyword, name_of, name_in, plain_name_of, plain_name_in, same_mark, same_keyword, mark_in, keyword_in, expect_mark, expect_keyword}
 use Rattle.ps_sql.specs.Grammar.{Reader, allows_column, allows_qualifier, column, qualified, qualified_by, bucket, bucket_by, request, request_by, request_or, request_value, token_user, token_or, dotted, quoted_name, function_of, arity, more_arguments, arguments, called, call_by, plain_name, type_by, cast, opposite, negative_by, bracketed, mark_value, prime_by, prime, operator_by, operator_at, null_test, is_same, step_by, step, go_on, more, chain, negation, sames, operand_at, is_arithmetic, whole, expr}
 use Rattle.ps_sql.specs.Spelled.{Rule, level, negation as not_rule, primary, expression, side, is_taken, sign_of, level_of, Spells, alone, between, is_null, is_not_null, not_negated, negated, number, negative, text, null, true_word, false_word, column as column_spelled, qualified as qualified_spelled, bucket as bucket_spelled, request as request_spelled, token_user as token_user_spelled, call, cast as cast_spelled, brackets, AreArguments, first, further}
 use Rattle.ps_sql.proofs.GrammarLaws.{expr_turn}

@@ -1,6 +1,7 @@
 -- The reading of a text finds its lexemes, or the first place where none begins.
 use Rattle.std.proofs.Common.{◌≡◌, ℕ, zero, suc, ◌+◌, ◌≤◌, Bool, true, false, List, [], ◌∷◌, length, drop, Option, Some, None, refl, arith, length-drop, Result, Ok, Err}
 use Rattle.std.specs.Prelude.{if◌then◌else◌}
+use Rattle.ps_data.specs.Chains.{◌>>=◌}
 use Rattle.ps_sql.specs.declared.words.Word.{Word}
 use Rattle.ps_sql.specs.declared.words.Lexeme.{Lexeme}
 use Rattle.ps_queries.specs.declared.queries.ParameterQuery.{ParameterQuery}
@@ -9,7 +10,7 @@ use Rattle.ps_sql.specs.declared.faults.SqlFault.{SqlFault}
 use Rattle.ps_sql.specs.declared.faults.SqlFault.TheVariants as faults
 use Rattle.ps_sql.specs.Words.{is_blank, word_at}
 use Rattle.ps_sql.specs.Lexemes.{AreLexemes, Stops, none_left, blank_next, past_blank}
-use Rattle.ps_sql.specs.Inputs.{Input, ◌>>=◌}
+use Rattle.ps_sql.specs.Inputs.{Input}
 use Rattle.ps_sql.specs.Answers.{AnswersQuery, Reads, input_of}
 use Rattle.ps_sql.specs.Queries.{parameter_query, data_query}
 use Rattle.ps_sql.specs.Readings.{lexemes_behind, lexemes_from, lexemes_of, parameter_query_of, data_query_of}

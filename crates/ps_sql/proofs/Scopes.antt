@@ -1,6 +1,7 @@
 -- What is read with a table known is read the same with none known.
 use Rattle.std.proofs.Common.{◌≡◌, ℕ, zero, suc, Bool, true, false, cond, List, [], ◌∷◌, ◌++◌, Option, Some, None, refl, ap, ◌∙◌}
 use Rattle.std.specs.Prelude.{Result, Ok, Err, ◌&&◌, ◌||◌, not, bytes_eq, codes}
+use Rattle.ps_data.specs.Chains.{◌>>=◌}
 use Rattle.ps_sql.specs.declared.words.Word.{Word}
 use Rattle.ps_sql.specs.declared.words.Word.TheVariants as words
 use Rattle.ps_sql.specs.declared.words.Keyword.{Keyword}
@@ -22,7 +23,7 @@ use Rattle.ps_sql.specs.declared.contexts.Level.{Level}
 use Rattle.ps_sql.specs.declared.contexts.Level.TheVariants as levels
 use Rattle.ps_sql.specs.declared.contexts.Step.{Step}
 use Rattle.ps_sql.specs.declared.contexts.Step.TheVariants as steps
-use Rattle.ps_sql.specs.Inputs.{Input, ◌>>=◌, next, second, third, fourth, here, past, is_mark, is_keyword, name_of, plain_name_of, same_mark, expect_mark, expect_keyword}
+use Rattle.ps_sql.specs.Inputs.{Input, next, second, third, fourth, here, past, is_mark, is_keyword, name_of, plain_name_of, same_mark, expect_mark, expect_keyword}
 use Rattle.ps_sql.specs.Grammar.{Reader, allows_column, allows_qualifier, column, qualified, qualified_by, bucket, request, request_or, token_user, token_or, dotted, quoted_name, function_of, more_arguments, arguments, called, call_by, named_value, plain_name, type_by, cast, keyword_value, bracketed, mark_value, prime_by, prime, operator_at, is_same, step_by, step, go_on, more, chain, negation, whole, expr}
 use Rattle.ps_sql.specs.Queries.{own_name, name_or_any, own_or, ends_without_table, output_name, name_anywhere, output_of, output, item, items, outputs, nothing_listed, begins_clause}
 

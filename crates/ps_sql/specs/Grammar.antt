@@ -1,5 +1,6 @@
 -- The reading of expressions, from left to right: what is read and what is left, or the first fault.
 use Rattle.std.specs.Prelude.{ℕ, ℤ, zero, suc, pos, neg_ℤ, int_lt, Bool, true, false, not, ◌&&◌, ◌||◌, ◌==◌, if◌then◌else◌, List, [], ◌∷◌, ◌++◌, length, Option, Some, None, Result, Ok, Err, bytes_eq, codes}
+use Rattle.ps_data.specs.Chains.{◌>>=◌}
 use Rattle.ps_sql.specs.declared.words.Word.{Word}
 use Rattle.ps_sql.specs.declared.words.Word.TheVariants as words
 use Rattle.ps_sql.specs.declared.words.Keyword.{Keyword}
@@ -22,7 +23,7 @@ use Rattle.ps_sql.specs.declared.contexts.Level.TheVariants as levels
 use Rattle.ps_sql.specs.declared.contexts.Step.{Step}
 use Rattle.ps_sql.specs.declared.contexts.Step.TheVariants as steps
 use Rattle.ps_sql.specs.Words.{same_word}
-use Rattle.ps_sql.specs.Inputs.{Input, ◌>>=◌, next, second, third, fourth, here, past, is_mark, is_keyword, name_of, plain_name_of, refusal, same_mark, same_keyword, expect_mark, expect_keyword}
+use Rattle.ps_sql.specs.Inputs.{Input, next, second, third, fourth, here, past, is_mark, is_keyword, name_of, plain_name_of, refusal, same_mark, same_keyword, expect_mark, expect_keyword}
 
 -- what reads an expression
 abbrev pub Reader : Type 0

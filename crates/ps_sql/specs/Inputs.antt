@@ -144,11 +144,6 @@ refusal input = if is_keyword keywords.LeftOut (next input) then faults.Unsuppor
     else faults.Unexpected (here input))
 
 -- what follows a step that may fail
-infixl 10 ◌>>=◌
-abbrev pub ◌>>=◌ : {A B : Type 0} → Result A SqlFault → (A → Result B SqlFault) → Result B SqlFault
-(Ok x) >>= f = f x
-(Err e) >>= f = Err e
-
 unfoldable pub expect_mark : Mark → Input → Result Input SqlFault
 expect_mark mark input = if is_mark mark (next input) then Ok (past 1 input) else Err (refusal input)
 

@@ -1,5 +1,6 @@
 -- The reading of queries, from left to right: the query, or the first fault.
 use Rattle.std.specs.Prelude.{ℕ, zero, suc, Bool, true, false, not, ◌&&◌, ◌||◌, if◌then◌else◌, List, [], ◌∷◌, ◌++◌, Option, Some, None, is_some, Result, Ok, Err, codes}
+use Rattle.ps_data.specs.Chains.{◌>>=◌}
 use Rattle.ps_sql.specs.declared.words.Keyword.TheVariants as keywords
 use Rattle.ps_sql.specs.declared.words.Mark.TheVariants as marks
 use Rattle.ps_queries.specs.declared.expressions.Expr.{Expr}
@@ -15,7 +16,7 @@ use Rattle.ps_sql.specs.declared.contexts.Source.{Source}
 use Rattle.ps_sql.specs.declared.contexts.Body.{Body}
 use Rattle.ps_sql.specs.declared.faults.SqlFault.{SqlFault}
 use Rattle.ps_sql.specs.declared.faults.SqlFault.TheVariants as faults
-use Rattle.ps_sql.specs.Inputs.{Input, ◌>>=◌, next, here, past, is_mark, is_keyword, name_of, refusal, expect_keyword, expect_name}
+use Rattle.ps_sql.specs.Inputs.{Input, next, here, past, is_mark, is_keyword, name_of, refusal, expect_keyword, expect_name}
 use Rattle.ps_sql.specs.Grammar.{expr}
 
 -- the name of an output without AS: a column's own, and that of the asker's user

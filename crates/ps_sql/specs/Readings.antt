@@ -1,5 +1,6 @@
 -- What a text is read as: its lexemes, and the query that they are, or the first fault.
 use Rattle.std.specs.Prelude.{ℕ, zero, suc, ◌+◌, if◌then◌else◌, List, [], ◌∷◌, drop, length, Option, Some, None, Result, Ok, Err}
+use Rattle.ps_data.specs.Chains.{◌>>=◌}
 use Rattle.ps_sql.specs.declared.words.Word.{Word}
 use Rattle.ps_sql.specs.declared.words.Lexeme.{Lexeme}
 use Rattle.ps_queries.specs.declared.queries.ParameterQuery.{ParameterQuery}
@@ -7,7 +8,6 @@ use Rattle.ps_queries.specs.declared.queries.DataQuery.{DataQuery}
 use Rattle.ps_sql.specs.declared.faults.SqlFault.{SqlFault}
 use Rattle.ps_sql.specs.declared.faults.SqlFault.TheVariants as faults
 use Rattle.ps_sql.specs.Words.{is_blank, word_at}
-use Rattle.ps_sql.specs.Inputs.{◌>>=◌}
 use Rattle.ps_sql.specs.Answers.{input_of}
 use Rattle.ps_sql.specs.Queries.{parameter_query, data_query}
 

@@ -2,6 +2,7 @@
 use Rattle.std.proofs.Common.{◌≡◌, ◌≢◌, ℕ, ◌+◌, ◌<◌, ◌≤◌, true, false, List, [], ◌∷◌, ◌++◌, Option, Some, None, Result, Ok, Err, length, refl, ap, sym, subst, ◌∙◌, arith, Bor}
 use Rattle.std.specs.Prelude.{MatchOption}
 use Rattle.std.proofs.lemmas.List.Elements.{All-nil, All-push}
+use Rattle.ps_data.specs.Chains.{◌>>=◌}
 use Rattle.ps_rows.specs.declared.changes.Change.{Change}
 use Rattle.ps_changes.specs.Lines.{lone_change_of}
 use Rattle.ps_changes.specs.Members.{Reads}
@@ -9,7 +10,7 @@ use Rattle.ps_changes.specs.declared.faults.ChangeFault.{ChangeFault}
 use Rattle.ps_changes.specs.declared.faults.ChangeFault.TheVariants.{LineTooLong, BadJson, BadShape, BadPosition, BadValue, Memory}
 use Rattle.ps_file_lines.specs.Lines.{is_blank, lines_of}
 use Rattle.ps_syncing.specs.declared.inputs.Refused.{Refused}
-use Rattle.ps_syncing.specs.Inputs.{HasRead, ReadsAs, UnlessMemory, bytes_left, changes_from, changes_of, lines_left, numbered, ◌>>=◌}
+use Rattle.ps_syncing.specs.Inputs.{HasRead, ReadsAs, UnlessMemory, bytes_left, changes_from, changes_of, lines_left, numbered}
 
 -- the first line and what is left behind it
 abbrev pub SplitsLine : List ℕ → List ℕ → Option (Bor (List ℕ)) → Type 0

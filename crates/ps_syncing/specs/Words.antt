@@ -1,13 +1,10 @@
 -- The words of `sync`: one command line with options, by the rules of `clap`.
 use Rattle.std.specs.Prelude.{ℕ, Bool, true, false, List, [], ◌∷◌, Option, Some, None, option_and_then, codes}
+use Rattle.ps_data.specs.OptionChains.{◌>>=◌}
 use Rattle.clap.specs.Words.{App, Kinds, Rule, fault_of, first_of, first_value, matches_of, new_app, new_rule, with_rule}
 use Rattle.clap.specs.declared.parser.matches.Found.{Found}
 use Rattle.ps_syncing.specs.declared.words.Named.{Named}
 use Rattle.clap.specs.declared.builder.action.ArgAction.TheVariants.{Set}
-
-infixl 10 ◌>>=◌
-abbrev pub ◌>>=◌ : {A B : Type 0} → Option A → (A → Option B) → Option B
-o >>= f = option_and_then f o
 
 -- an option `--NAME VALUE`
 abbrev pub option_of : List ℕ → Bool → Rule

@@ -1,5 +1,6 @@
 -- Key files: docs/FORMATS.md, "Keys".
 use Rattle.std.specs.Prelude.{◌≡◌, ◌≢◌, ℕ, Bool, if◌then◌else◌, List, [], ◌∷◌, ◌++◌, codes, bytes_eq, Option, Some, None, option_and_then, option_map, Result, Err}
+use Rattle.ps_data.specs.OptionChains.{◌>>=◌}
 use Rattle.serde_json.specs.Data.{Data as Json, string, array, Items, no_items, item}
 use Rattle.serde_json.specs.Find.{get, as_str, as_array}
 use Rattle.ps_data.specs.Documents.{json_of}
@@ -11,10 +12,6 @@ use Rattle.ps_token.specs.KeyLists.{are_distinct, HaveDistinctKids}
 use Rattle.ps_token.specs.Parts.{bytes_of}
 
 -- ---- the reading function
-
-infixl 10 ◌>>=◌
-abbrev pub ◌>>=◌ : {A B : Type 0} → Option A → (A → Option B) → Option B
-o >>= f = option_and_then f o
 
 abbrev pub text_at : List ℕ → Json → Option (List ℕ)
 text_at name d = option_and_then as_str (get name d)

@@ -7,11 +7,6 @@ use Rattle.ps_token.specs.declared.faults.SignFault.TheVariants as sign
 use Rattle.ps_token.specs.declared.faults.TokenFault.{TokenFault}
 use Rattle.ps_token.specs.declared.faults.TokenFault.TheVariants as token
 
-infixl 10 ◌>>=◌
-abbrev pub ◌>>=◌ : {A B E : Type 0} → Result A E → (A → Result B E) → Result B E
-Ok x >>= f = f x
-Err fault >>= f = Err fault
-
 -- what is there, or else a fault
 abbrev pub or_fault : {A E : Type 0} → E → Option A → Result A E
 or_fault fault (Some x) = Ok x

@@ -1,7 +1,7 @@
 -- What a sequence of readings tells of its parts.
 use Rattle.std.proofs.Common.{◌≡◌, Bool, true, false, if◌then◌else◌, Result, Ok, Err, refl, ap, inl, inr, ◌⊎◌}
+use Rattle.ps_data.specs.Chains.{◌>>=◌}
 use Rattle.ps_yaml.specs.declared.faults.YamlFault.{YamlFault}
-use Rattle.ps_yaml.specs.Faults.{◌>>=◌}
 
 pub bind_ok : {A B : Type 0} (read : Result A YamlFault) (next : A → Result B YamlFault) (y : B) → (read >>= next) ≡ Ok y → (x : A) × (read ≡ Ok x) × (next x ≡ Ok y)
 bind_ok (Ok x) next y e = (x, refl, e)

@@ -2,11 +2,11 @@
 use Rattle.std.proofs.Common.{◌≡◌, ℕ, zero, suc, ◌+◌, ◌≤◌, List, [], ◌∷◌, Bool, true, false, ◌==◌, ◌&&◌, not, nat_lt, nat_le, length, drop, Some, None, Result, Ok, refl, sym, ap, subst, ◌∙◌, arith}
 use Rattle.std.proofs.lemmas.Bool.Decides.{nat_tests}
 use Rattle.std.specs.Str.{is_utf8}
+use Rattle.ps_data.specs.Chains.{◌>>=◌}
 use Rattle.ps_yaml.specs.declared.nodes.Node.{Node}
 use Rattle.ps_yaml.specs.declared.nodes.Node.TheVariants.{Scalar}
 use Rattle.ps_yaml.specs.declared.nodes.Pair.{Pair}
 use Rattle.ps_yaml.specs.declared.faults.YamlFault.{YamlFault}
-use Rattle.ps_yaml.specs.Faults.{◌>>=◌}
 use Rattle.ps_yaml.specs.Lines.{Line, kind_of, spaces, content, from_content, begins}
 use Rattle.ps_yaml.specs.Scalars.{is_tabbed, is_line_end, is_empty, is_break}
 use Rattle.ps_yaml.specs.Trees.{next_in, item_at, item_then, items_at, is_item, is_entry, name_len, begins_name, new_name, name_of, is_named, pairs_at, value_at, value_offset, below, root, document_of}

@@ -5,8 +5,8 @@ use Rattle.ps_yaml.specs.declared.nodes.Node.{Node}
 use Rattle.ps_yaml.specs.declared.nodes.Node.TheVariants.{Scalar}
 use Rattle.ps_yaml.specs.declared.faults.YamlFault.{YamlFault}
 use Rattle.ps_yaml.specs.declared.scalars.Style.{Style}
-use Rattle.ps_yaml.specs.Faults.{◌>>=◌}
 use Rattle.std.specs.List.{list_all}
+use Rattle.ps_data.specs.Chains.{◌>>=◌}
 use Rattle.ps_yaml.specs.Lines.{Line, is_space, spaces}
 use Rattle.ps_yaml.specs.Trees.{item_at, is_nested, item_offset}
 use Rattle.ps_yaml.specs.Scalars.{bad_scalar, scalar_at, plain_scalar, plain_part, continued, has_colon, closed, is_line_end, single_scalar, single_closed, single_quoted, double_scalar, double_closed, double_quoted, unescaped, block_scalar, block_styled, block_lines, block_indent, block_len, style_of, trimmed, joined, ended, is_left_out, begins_none}

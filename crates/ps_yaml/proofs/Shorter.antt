@@ -2,10 +2,10 @@
 use Rattle.std.proofs.Common.{◌≡◌, ℕ, suc, ◌+◌, ◌≤◌, List, [], ◌∷◌, ◌++◌, Bool, true, false, ◌==◌, ◌||◌, ◌&&◌, nat_lt, if◌then◌else◌, length, take, drop, slice_index, Option, Some, None, Result, Ok, Err, subst, arith}
 use Rattle.std.specs.List.{position_or_len}
 use Rattle.std.proofs.lemmas.List.{length-drop}
+use Rattle.ps_data.specs.Chains.{◌>>=◌}
 use Rattle.ps_yaml.specs.declared.nodes.Node.{Node}
 use Rattle.ps_yaml.specs.declared.faults.YamlFault.{YamlFault}
 use Rattle.ps_yaml.specs.declared.scalars.Style.{Style}
-use Rattle.ps_yaml.specs.Faults.{◌>>=◌}
 use Rattle.ps_yaml.specs.Lines.{Line, kind_of, is_passed, spaces, content, from_content, is_met}
 use Rattle.ps_yaml.specs.Scalars.{scalar_at, plain_scalar, continued, is_content, has_colon, single_scalar, single_closed, single_quoted, double_scalar, double_closed, double_quoted, closed, is_line_end, block_scalar, block_styled, block_lines, block_len, block_indent, style_of, trimmed, unescaped, is_left_out, begins_none, plain_part}
 use Rattle.ps_yaml.specs.Trees.{item_at, is_nested, item_offset}

@@ -1,8 +1,8 @@
 -- One turn of the loops over the lines of a list and of a map, and their end.
 use Rattle.std.proofs.Common.{◌≡◌, ℕ, zero, suc, ◌-◌, ◌<◌, ◌≤◌, List, [], Bool, Ok, refl, sym, ap, arith}
+use Rattle.ps_data.specs.Chains.{◌>>=◌}
 use Rattle.ps_yaml.specs.declared.nodes.Node.{Node}
 use Rattle.ps_yaml.specs.declared.nodes.Pair.{Pair}
-use Rattle.ps_yaml.specs.Faults.{◌>>=◌}
 use Rattle.ps_yaml.specs.Lines.{Line, from_content}
 use Rattle.ps_yaml.specs.Trees.{next_in, item_then, items_at, pair_then, pairs_at, value_at}
 

@@ -3,11 +3,6 @@ use Rattle.std.specs.Prelude.{◌≡◌, Result, Ok, Err}
 use Rattle.ps_yaml.specs.declared.faults.YamlFault.{YamlFault}
 use Rattle.ps_yaml.specs.declared.faults.YamlFault.TheVariants.{BadIndent, BadScalar, DuplicateKey, Unsupported, Memory}
 
-infixl 10 ◌>>=◌
-abbrev pub ◌>>=◌ : {A B : Type 0} → Result A YamlFault → (A → Result B YamlFault) → Result B YamlFault
-(Ok x) >>= f = f x
-(Err fault) >>= f = Err fault
-
 -- what a function returned, seen by a view, is what reading gives; where it is out of memory nothing is said
 abbrev pub Reads : {X Y : Type 0} → (X → Y) → Result X YamlFault → Result Y YamlFault → Type 0
 Reads view (Ok x) meant = meant ≡ Ok (view x)

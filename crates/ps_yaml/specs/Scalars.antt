@@ -1,6 +1,7 @@
 -- Scalars: what a text means that begins at an offset of a line, and which lines it takes.
 use Rattle.std.specs.Prelude.{ℕ, zero, suc, ◌+◌, ◌-◌, List, [], ◌∷◌, ◌++◌, Bool, true, false, ◌==◌, ◌||◌, ◌&&◌, nat_lt, nat_le, length, take, drop, slice_index, Option, Some, None, option_map, Result, Ok, Err, bytes_eq, codes, if◌then◌else◌}
 use Rattle.std.specs.List.{suffix_len, flat_map}
+use Rattle.ps_data.specs.Chains.{◌>>=◌}
 use Rattle.ps_yaml.specs.declared.lines.Kind.{Kind}
 use Rattle.ps_yaml.specs.declared.lines.Kind.TheVariants.{Blank, Comment, Tabbed, Content}
 use Rattle.ps_yaml.specs.declared.scalars.Style.{Style}
@@ -8,7 +9,6 @@ use Rattle.ps_yaml.specs.declared.faults.YamlFault.{YamlFault}
 use Rattle.ps_yaml.specs.declared.faults.YamlFault.TheVariants.{BadIndent, BadScalar, Unsupported}
 use Rattle.ps_yaml.specs.declared.nodes.Node.{Node}
 use Rattle.ps_yaml.specs.declared.nodes.Node.TheVariants.{Scalar}
-use Rattle.ps_yaml.specs.Faults.{◌>>=◌}
 use Rattle.ps_yaml.specs.Lines.{Line, begins, is_space, is_space_or_tab, spaces, content, kind_of, is_passed}
 
 -- what stands at an offset of a line is no scalar

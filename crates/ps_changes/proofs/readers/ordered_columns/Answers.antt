@@ -1,6 +1,6 @@
 use Rattle.std.proofs.Common.{◌++◌, ap, ◌∙◌, Ok}
 use Rattle.std.proofs.lemmas.List.{append-nil}
-use Rattle.ps_changes.specs.Members.{◌>>=◌}
+use Rattle.ps_data.specs.Chains.{◌>>=◌}
 use Rattle.ps_changes.specs.Borrowed.{seen, entries_seen}
 use Rattle.ps_rows.specs.Rows.{is_row}
 use Rattle.ps_changes.specs.Lines.{columns_of}

@@ -1,5 +1,5 @@
 use Rattle.std.proofs.Common.{◌≡◌, ◌++◌, Ok}
-use Rattle.ps_changes.specs.Members.{◌>>=◌}
+use Rattle.ps_data.specs.Chains.{◌>>=◌}
 use Rattle.ps_changes.specs.Borrowed.{entries_seen}
 use Rattle.ps_changes.specs.Lines.{columns_of}
 use Rattle.ps_changes.proofs.readers.ordered_columns.Given as goal

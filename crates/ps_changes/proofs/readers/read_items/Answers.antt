@@ -3,11 +3,12 @@ use Rattle.std.specs.Prelude.{IsErrAnd}
 use Rattle.std.proofs.lemmas.List.{append-nil, at_drop_all}
 use Rattle.std.proofs.Math.Seq.{drop-cons}
 use Rattle.std.specs.declared.alloc.Global.{Global}
+use Rattle.ps_data.specs.Chains.{◌>>=◌}
 use Rattle.json.specs.Value.{items_view}
 use Rattle.json.specs.declared.value.Value.{Value as Borrowed}
 use Rattle.serde_json.specs.Data.{Data, Items, item}
 use Rattle.ps_changes.specs.Types.{Change, ChangeFault, LineTooLong, BadJson, BadShape, BadPosition, BadValue, Memory}
-use Rattle.ps_changes.specs.Members.{◌>>=◌, Reads}
+use Rattle.ps_changes.specs.Members.{Reads}
 use Rattle.ps_changes.specs.Borrowed.{seen, items_in}
 use Rattle.ps_changes.specs.Lines.{change_of, changes_of}
 use Rattle.ps_changes.proofs.Columns.{fronts}

@@ -1,8 +1,9 @@
 -- The summary is what is meant, over any files.
 use Rattle.std.proofs.Common.{ap, Ok, Result, List, ℕ}
+use Rattle.ps_data.specs.Chains.{◌>>=◌}
 use Rattle.ps_files.specs.declared.faults.Fault.{Fault}
 use Rattle.ps_commands.specs.Commands.{generate}
-use Rattle.ps_commands.specs.Meanings.{or_refused, prints, ◌>>=◌}
+use Rattle.ps_commands.specs.Meanings.{or_refused, prints}
 use Rattle.ps_commands.proofs.Readings.{completed, agree}
 use Rattle.ps_commands.proofs.Nexts.{none_given}
 use Rattle.ps_commands.proofs.plain.generate.Goals as goal

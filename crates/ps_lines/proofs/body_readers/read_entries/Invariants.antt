@@ -1,8 +1,8 @@
 use Rattle.std.proofs.Common.{◌≡◌, ◌≤◌, ◌++◌, Ok, drop}
 use Rattle.std.specs.List.{All}
+use Rattle.ps_data.specs.Chains.{◌>>=◌}
 use Rattle.serde_json.specs.View.{items_view}
 use Rattle.ps_data.specs.Numbers.{greatest}
-use Rattle.ps_lines.specs.Members.{◌>>=◌}
 use Rattle.ps_lines.specs.Bodies.{entries_known}
 use Rattle.ps_lines.proofs.body_readers.read_entries.Given as goal
 

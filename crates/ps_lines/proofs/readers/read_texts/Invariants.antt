@@ -1,6 +1,6 @@
 use Rattle.std.proofs.Common.{◌≡◌, ◌++◌, Ok, drop}
+use Rattle.ps_data.specs.Chains.{◌>>=◌}
 use Rattle.serde_json.specs.View.{items_view}
-use Rattle.ps_lines.specs.Members.{◌>>=◌}
 use Rattle.ps_lines.specs.Reading.{texts_of}
 use Rattle.ps_lines.proofs.readers.read_texts.Given as goal
 

@@ -1,7 +1,7 @@
 use Rattle.std.proofs.Common.{◌≡◌, ◌++◌, ap, ◌∙◌, string_bytes, Ok}
 use Rattle.std.proofs.lemmas.List.{append-nil}
+use Rattle.ps_data.specs.Chains.{◌>>=◌}
 use Rattle.serde_json.specs.View.{view, members_view}
-use Rattle.ps_changes.specs.Members.{◌>>=◌}
 use Rattle.ps_changes.specs.Lines.{columns_of, column_of}
 use Rattle.ps_snapshot.proofs.Columns.{member_more, in_order}
 use Rattle.ps_snapshot.proofs.readers.read_columns.Goals as goal

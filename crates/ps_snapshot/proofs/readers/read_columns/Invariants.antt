@@ -1,6 +1,6 @@
 use Rattle.std.proofs.Common.{◌≡◌, ◌++◌, Ok}
+use Rattle.ps_data.specs.Chains.{◌>>=◌}
 use Rattle.serde_json.specs.View.{members_view}
-use Rattle.ps_changes.specs.Members.{◌>>=◌}
 use Rattle.ps_changes.specs.Lines.{columns_of}
 use Rattle.ps_snapshot.proofs.readers.read_columns.Given as goal
 

@@ -1,6 +1,6 @@
 use Rattle.std.proofs.Common.{◌≡◌, ◌++◌, Ok, drop}
+use Rattle.ps_data.specs.Chains.{◌>>=◌}
 use Rattle.serde_json.specs.View.{items_view}
-use Rattle.ps_snapshot.specs.Faults.{◌>>=◌}
 use Rattle.ps_snapshot.specs.Reading.{tables_of}
 use Rattle.ps_snapshot.proofs.readers.read_tables.Given as goal
 

@@ -1,5 +1,5 @@
 use Rattle.std.proofs.Common.{◌≡◌, ◌+◌, ◌≤◌, ◌==◌, if◌then◌else◌, ℕ, Ok, drop}
-use Rattle.ps_yaml.specs.Faults.{◌>>=◌}
+use Rattle.ps_data.specs.Chains.{◌>>=◌}
 use Rattle.ps_yaml.specs.Scalars as words
 use Rattle.ps_yaml.proofs.scalars.block_len.Given as goal
 

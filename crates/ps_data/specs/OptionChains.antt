@@ -1,0 +1,6 @@
+-- What may be there in a chain: what comes next works on what is there, and the first that is not ends it.
+use Rattle.std.specs.Prelude.{Option, option_and_then}
+
+infixl 10 ◌>>=◌
+abbrev pub ◌>>=◌ : {A B : Type 0} → Option A → (A → Option B) → Option B
+o >>= f = option_and_then f o
