@@ -2,12 +2,12 @@
 use Rattle.std.proofs.Common.{◌≡◌, ◌≢◌, [], ℕ, Bool, true, false, List, Option, Some, None, Result, Ok, Err, IfOk, cond, refl, sym, ap, ◌∙◌, subst}
 use Rattle.std.specs.List.{All}
 use Rattle.std.proofs.lemmas.List.Elements.{All-nil, All-cons}
-use Rattle.ps_data.specs.Chains.{◌>>=◌}
+use Rattle.ps_data.specs.Chains.{◌>>=◌, or_fault}
 use Rattle.serde_json.specs.Data.{Data as Json, Items}
 use Rattle.ps_data.specs.Documents.{json_of}
 use Rattle.ps_values.specs.Laws.{ReadsWhatIsWritten}
 use Rattle.ps_changes.specs.Types.{Change, Transaction, ChangeFault, BadJson, BadShape}
-use Rattle.ps_changes.specs.Members.{or_fault, Reads}
+use Rattle.ps_changes.specs.Members.{Reads}
 use Rattle.ps_changes.specs.Shapes.{is_change, is_transaction}
 use Rattle.ps_changes.specs.Lines.{shaped, change_of, transaction_of}
 use Rattle.ps_changes.specs.Grammar.{IsChange, AreChanges, no_changes, with_change, IsTransaction}

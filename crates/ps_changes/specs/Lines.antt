@@ -1,7 +1,7 @@
 -- The transaction that a change line is, and the first fault of a line that is none: docs/FORMATS.md, "Change lines".
 use Rattle.std.specs.Prelude.{ℕ, ◌<◌, ◌≤◌, ◌≡◌, List, [], ◌∷◌, ◌++◌, Bool, nat_lt, nat_le, length, bytes_eq, codes, Option, Some, None, is_none, option_and_then, if◌then◌else◌, Result, Ok, Err}
 use Rattle.std.specs.Str.{IsUtf8}
-use Rattle.ps_data.specs.Chains.{◌>>=◌}
+use Rattle.ps_data.specs.Chains.{◌>>=◌, or_fault}
 use Rattle.serde_json.specs.Data.{Data as Json, Items, no_items, item, Members, no_members, member}
 use Rattle.serde_json.specs.Find.{get, as_str, as_array, as_object}
 use Rattle.ps_data.specs.declared.columns.Column.{Column}
@@ -12,7 +12,6 @@ use Rattle.ps_values.specs.ValueFaults.{first_fault, numbers_of}
 use Rattle.ps_data.specs.Numbers.{decimal_of}
 use Rattle.ps_data.specs.Documents.{json_of}
 use Rattle.ps_rows.specs.Rows.{is_id}
-use Rattle.ps_changes.specs.Members.{or_fault}
 use Rattle.ps_changes.specs.Shapes.{is_change, has_changes, is_transaction}
 use Rattle.ps_changes.specs.Types.{Change, Transaction, ChangeFault, LineTooLong, BadJson, BadShape, BadPosition, BadValue}
 

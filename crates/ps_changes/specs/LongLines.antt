@@ -1,10 +1,9 @@
 -- Change lines and single changes of any length, and the transaction or the change that a JSON value is: docs/FORMATS.md, "Change lines".
 use Rattle.std.specs.Prelude.{◌≡◌, ℕ, List, Some, Result, Ok, Err, if◌then◌else◌}
-use Rattle.ps_data.specs.Chains.{◌>>=◌}
+use Rattle.ps_data.specs.Chains.{◌>>=◌, or_fault}
 use Rattle.serde_json.specs.Data.{Data as Json}
 use Rattle.ps_data.specs.Documents.{json_of}
 use Rattle.ps_changes.specs.Types.{Change, Transaction, ChangeFault, BadJson, BadShape}
-use Rattle.ps_changes.specs.Members.{or_fault}
 use Rattle.ps_changes.specs.Shapes.{is_change, is_transaction}
 use Rattle.ps_changes.specs.Lines.{shaped, change_of, transaction_of}
 use Rattle.ps_changes.specs.Grammar.{IsChange, IsTransaction}

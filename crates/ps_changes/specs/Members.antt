@@ -1,12 +1,7 @@
 -- What reading JSON answers.
-use Rattle.std.specs.Prelude.{◌≡◌, List, ◌++◌, Option, Some, None, Result, Ok, Err}
+use Rattle.std.specs.Prelude.{◌≡◌, List, ◌++◌, Result, Ok, Err}
 use Rattle.ps_changes.specs.declared.faults.ChangeFault.{ChangeFault}
 use Rattle.ps_changes.specs.declared.faults.ChangeFault.TheVariants.{LineTooLong, BadJson, BadShape, BadPosition, BadValue, Memory}
-
--- what is there, or else a fault
-abbrev pub or_fault : {A : Type 0} → ChangeFault → Option A → Result A ChangeFault
-or_fault fault (Some x) = Ok x
-or_fault fault None = Err fault
 
 -- what was read is what is meant, or the fault is; out of memory says nothing
 abbrev pub Reads : {X : Type 0} → Result X ChangeFault → Result X ChangeFault → Type 0

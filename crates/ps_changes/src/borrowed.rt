@@ -2,6 +2,7 @@
 
 ghost use Rattle.std.specs.Prelude.{◌≡◌, ◌==◌, ◌<◌, length, slice_index, IfOk, IsTrue, option_map, true, false, Err};
 ghost use Rattle.std.specs.Str.{IsUtf8};
+ghost use Rattle.ps_data.specs.Chains.{or_fault};
 ghost use Rattle.json.specs.Value.{value_view, items_view, members_view};
 ghost use Rattle.serde_json.specs.Data.{no_members};
 ghost use Rattle.serde_json.specs.Find.{get, as_str, as_array, as_object};
@@ -9,7 +10,7 @@ ghost use Rattle.serde_json.specs.Read.{number_of, number_from, float_of};
 ghost use Rattle.serde_json.specs.View.{view, number_view, items_view as tree_items_view, members_view as tree_members_view};
 ghost use Rattle.ps_data.specs.Documents.{json_of};
 ghost use Rattle.ps_changes.specs.Types.{BadJson};
-ghost use Rattle.ps_changes.specs.Members.{Reads, or_fault, seen_by};
+ghost use Rattle.ps_changes.specs.Members.{Reads, seen_by};
 ghost use Rattle.ps_changes.specs.Borrowed.{number_in as number_data, fits as fits_data, items_fit as items_fit_data, members_fit as members_fit_data, items_in, members_in, seen, entries_seen};
 
 use crate::ChangeFault;

@@ -4,7 +4,7 @@ use Rattle.std.specs.Prelude.{nat_le, codes, option_and_then}
 use Rattle.std.specs.Str.{IsUtf8, is_utf8}
 use Rattle.std.proofs.lemmas.List.{drop_more}
 use Rattle.std.proofs.lemmas.Str.{IsUtf8-append, IsUtf8-from_is_utf8, is_utf8-from_IsUtf8}
-use Rattle.ps_data.specs.Chains.{◌>>=◌}
+use Rattle.ps_data.specs.Chains.{◌>>=◌, or_fault}
 use Rattle.json.specs.Json as json
 use Rattle.json.specs.Lex.{tokens}
 use Rattle.json.specs.Token.{Token}
@@ -26,7 +26,6 @@ use Rattle.ps_rows.specs.declared.changes.Change.{Change}
 use Rattle.ps_changes.specs.declared.faults.ChangeFault.{ChangeFault}
 use Rattle.ps_changes.specs.declared.faults.ChangeFault.TheVariants.{LineTooLong, BadJson, BadShape}
 use Rattle.ps_changes.specs.Lines.{longest, short, shaped, change_of, json_within, json_such, lone_change_of, body_of}
-use Rattle.ps_changes.specs.Members.{or_fault}
 use Rattle.ps_changes.specs.Shapes.{is_change}
 use Rattle.ps_changes.specs.Writing.{members_of, json_with, change_json, change_text}
 use Rattle.ps_client.specs.LocalWrites.{upload_text, IsReadAgain, FitsInt64, RowFitsInt64}

@@ -2,6 +2,7 @@
 use Rattle.std.proofs.Common.{◌≡◌, ◌⊎◌, inl, inr, ℕ, Bool, true, false, ◌&&◌, ◌||◌, cond, List, [], ◌∷◌, Option, Some, None, Result, Ok, Err, codes, refl, sym, ap, ◌∙◌, subst}
 use Rattle.std.specs.Option.{option_and_then, unwrap_or, is_some, is_none}
 use Rattle.std.specs.Result.{IfOk}
+use Rattle.ps_data.specs.Chains.{or_fault}
 use Rattle.serde_json.specs.Data.{Data as Json, null, boolean, number, string, array, object, Items, no_items, item, Members}
 use Rattle.serde_json.specs.Find.{get, as_str, as_bool, as_null, as_array, as_object}
 use Rattle.serde_json.specs.Written.{compact_text}
@@ -10,7 +11,7 @@ use Rattle.ps_data.specs.Documents.{json_of}
 use Rattle.ps_data.specs.Conversions.{plain_of}
 use Rattle.ps_values.specs.Laws.{ReadsWhatIsWritten}
 use Rattle.ps_lines.specs.Types.{Known, StreamBody, LineFault, BadJson, BadShape}
-use Rattle.ps_lines.specs.Members.{Reads, or_fault, text_at, id_at}
+use Rattle.ps_lines.specs.Members.{Reads, text_at, id_at}
 use Rattle.ps_lines.specs.Shapes.{is_list, may_have_text}
 use Rattle.ps_lines.specs.BodyShapes.{is_position, may_have_positions, may_have_object, may_have_true, may_have_truth, is_body}
 use Rattle.ps_lines.specs.Bodies.{last_ones, known_of, entries_known, entries_in, positions_of, client_of, plain_text, parameters_of, shaped_body, body_of_json, body_of}

@@ -5,7 +5,7 @@ use Rattle.std.specs.Option.{option_and_then, is_some, is_none}
 use Rattle.std.specs.Result.{IfOk}
 use Rattle.std.proofs.lemmas.Bool.Decides.{nat_tests}
 use Rattle.std.proofs.lemmas.Slice.Eq.{bytes_eq-Decides}
-use Rattle.ps_data.specs.Chains.{◌>>=◌}
+use Rattle.ps_data.specs.Chains.{◌>>=◌, or_fault}
 use Rattle.serde_json.specs.Data.{Data as Json, Num, unsigned, negative, float, null, boolean, number, string, array, object, Items, no_items, item, Members, no_members, member}
 use Rattle.serde_json.specs.Find.{get, as_str, as_bool, as_null, as_array, as_number, as_i64, as_u64, as_integer}
 use Rattle.ps_data.specs.Numbers.{decimal_of}
@@ -19,7 +19,7 @@ use Rattle.ps_bucket_log.specs.declared.ops.Op.TheVariants.{Put, Remove}
 use Rattle.ps_bucket_log.specs.Ops.{id_of, newest}
 use Rattle.ps_bucket_log.specs.Logs.{IsRising}
 use Rattle.ps_lines.specs.Types.{Entry, Line, Data, Unknown, LineFault, BadJson, BadShape, BadNumber}
-use Rattle.ps_lines.specs.Members.{Reads, or_fault, within, text_at, truth_at, list_at, number_at, decimal_at, id_at, sum_of, sum_at, whole_of, whole_or, whole_at, priority_at}
+use Rattle.ps_lines.specs.Members.{Reads, within, text_at, truth_at, list_at, number_at, decimal_at, id_at, sum_of, sum_at, whole_of, whole_or, whole_at, priority_at}
 use Rattle.ps_lines.specs.Shapes.{has_text, has_truth, has_number, may_have_text, all_items, is_list, has_list, is_op_of, is_op, is_checkpoint, is_diff, is_data}
 use Rattle.ps_lines.specs.Reading.{upload_at, entry_of, entries_of, text_of, texts_of, key_of, put_of, remove_of, op_named, op_of, ops_of, rises_from, leads, checkpoint_of, diff_of, data_of, complete_of, expires_of, shaped, line_named, line_of_members, line_of_json, without_feed, line_of}
 use Rattle.ps_lines.specs.Grammar.{HasText, HasTruth, HasDecimal, HasWholeOr, IsModulo, HasSum, AreAll, HasUpload, IsText, IsEntry, HasKey, IsOpOf, MayHaveData, IsOp, IsNamed, IsLine}

@@ -4,6 +4,7 @@ use Rattle.std.specs.Fmt.{decimal}
 use Rattle.std.specs.Option.{option_and_then}
 use Rattle.std.proofs.lemmas.Bool.Decides.{nat_tests}
 use Rattle.std.proofs.lemmas.Slice.Eq.{bytes_eq-Decides}
+use Rattle.ps_data.specs.Chains.{or_fault}
 use Rattle.serde_json.specs.Data.{Data as Json, Num, unsigned, negative, float, Items, no_items, item}
 use Rattle.serde_json.specs.Find.{as_str, as_i64, as_integer}
 use Rattle.ps_values.specs.Laws.{ReadsWhatIsWritten}
@@ -14,7 +15,7 @@ use Rattle.ps_bucket_log.specs.declared.ops.Op.TheVariants.{Put, Remove, Move, C
 use Rattle.ps_bucket_log.specs.Ops.{id_of, newest}
 use Rattle.ps_bucket_log.specs.Logs.{IsRising}
 use Rattle.ps_lines.specs.Types.{Entry, Line, Checkpoint, Diff, Data, Complete, Expires, Unknown, LineFault, BadShape}
-use Rattle.ps_lines.specs.Members.{Reads, or_fault, text_at, decimal_at, id_at, sum_of, sum_at, whole_at}
+use Rattle.ps_lines.specs.Members.{Reads, text_at, decimal_at, id_at, sum_of, sum_at, whole_at}
 use Rattle.ps_lines.specs.Shapes.{has_number, may_have_number, may_have_text, all_items, is_text, is_entry, is_op}
 use Rattle.ps_lines.specs.Reading.{upload_at, entry_of, entries_of, texts_of, op_of, ops_of, rises_from, leads, line_named, line_of}
 use Rattle.ps_lines.specs.Grammar.{HasText, HasDecimal, HasWholeOr, IsModulo, HasSum, AreAll, HasUpload, IsText, IsEntry, MayHaveData, IsOp, IsNamed, IsLine}

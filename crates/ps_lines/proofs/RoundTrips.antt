@@ -12,7 +12,7 @@ use Rattle.serde_json.specs.Written.{items_outline}
 use Rattle.serde_json.proofs.Numbers.{number_of-decimal}
 use Rattle.std.proofs.lemmas.List.Elements.{All-nil, All-cons, All-head, All-tail}
 use Rattle.std.proofs.lemmas.Bool.Decides.{nat_tests}
-use Rattle.ps_data.specs.Chains.{◌>>=◌}
+use Rattle.ps_data.specs.Chains.{◌>>=◌, or_fault}
 use Rattle.serde_json.specs.Data.{Data as Json, string, unsigned}
 use Rattle.serde_json.specs.Find.{as_i64}
 use Rattle.serde_json.specs.View.{items_of}
@@ -27,7 +27,7 @@ use Rattle.ps_lines.proofs.Tokens.{IsReadOfItsTokens, items_read, read_of_tokens
 use Rattle.ps_lines.specs.Tokens.{tokens_of}
 use Rattle.ps_lines.specs.declared.faults.LineFault.TheVariants.{BadNumber}
 use Rattle.ps_lines.specs.Types.{Entry, Line, Checkpoint, Diff, Data, Complete, Expires, Unknown}
-use Rattle.ps_lines.specs.Members.{or_fault, within, sum_of}
+use Rattle.ps_lines.specs.Members.{within, sum_of}
 use Rattle.ps_lines.specs.Shapes.{all_items, is_entry, is_op, is_text}
 use Rattle.ps_lines.specs.Reading.{entry_of, entries_of, texts_of, op_of, ops_of, rises_from, leads, line_of_json, without_feed, line_of}
 use Rattle.ps_lines.specs.Writing.{entry_json, op_json, line_json, op_without_target, without_targets, IsWritable, SumsFit, CountsFit}

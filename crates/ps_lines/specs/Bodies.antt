@@ -1,7 +1,7 @@
 -- The request's body that bytes are: docs/FORMATS.md, "Stream requests".
 use Rattle.std.specs.Prelude.{◌≡◌, ℕ, ◌<◌, ◌≤◌, List, [], ◌∷◌, Bool, Option, Some, None, option_and_then, if◌then◌else◌, Result, Ok, Err, map, All, bytes_eq, codes}
 use Rattle.std.specs.List.{list_any, IsDistinct}
-use Rattle.ps_data.specs.Chains.{◌>>=◌}
+use Rattle.ps_data.specs.Chains.{◌>>=◌, or_fault}
 use Rattle.serde_json.specs.Data.{Data as Json, object, Items, no_items, item, Members, depth}
 use Rattle.serde_json.specs.Find.{get, as_str, as_array, as_object}
 use Rattle.serde_json.specs.Read.{max_depth}
@@ -13,7 +13,7 @@ use Rattle.ps_lines.specs.declared.faults.LineFault.{LineFault}
 use Rattle.ps_lines.specs.declared.faults.LineFault.TheVariants.{BadJson, BadShape}
 use Rattle.ps_lines.specs.declared.bodies.Known.{Known}
 use Rattle.ps_lines.specs.declared.bodies.StreamBody.{StreamBody}
-use Rattle.ps_lines.specs.Members.{or_fault, text_at, id_at}
+use Rattle.ps_lines.specs.Members.{text_at, id_at}
 use Rattle.ps_lines.specs.BodyShapes.{is_body}
 
 -- one of the entries names the bucket

@@ -1,7 +1,7 @@
 -- The members of a line: a member that is missing or of another kind is a fault of shape,
 -- a number out of form or out of range a fault of number.
 use Rattle.std.specs.Prelude.{◌≡◌, ℕ, ◌-◌, ℤ, pos, negsuc, List, Bool, nat_le, Option, Some, None, option_and_then, if◌then◌else◌, Result, Ok, Err, codes}
-use Rattle.ps_data.specs.Chains.{◌>>=◌}
+use Rattle.ps_data.specs.Chains.{◌>>=◌, or_fault}
 use Rattle.serde_json.specs.Data.{Data as Json, Num, Items}
 use Rattle.serde_json.specs.Find.{get, as_str, as_bool, as_array, as_number, as_i64, as_u64}
 use Rattle.ps_data.specs.declared.ids.OpId.{OpId}
@@ -9,11 +9,6 @@ use Rattle.ps_data.specs.Numbers.{decimal_of}
 use Rattle.ps_checksum.specs.declared.sums.Sum.{Sum}
 use Rattle.ps_lines.specs.declared.faults.LineFault.{LineFault}
 use Rattle.ps_lines.specs.declared.faults.LineFault.TheVariants.{BadJson, BadShape, BadNumber, Memory}
-
--- what is there, or else a fault
-abbrev pub or_fault : {A : Type 0} → LineFault → Option A → Result A LineFault
-or_fault fault (Some x) = Ok x
-or_fault fault None = Err fault
 
 -- what goes on where a number is in range
 abbrev pub within : {A : Type 0} → Bool → A → Result A LineFault

@@ -1,6 +1,6 @@
 -- The line that bytes are: docs/FORMATS.md, "Stream lines".
 use Rattle.std.specs.Prelude.{ℕ, ◌-◌, List, [], ◌∷◌, Bool, true, ◌&&◌, ◌==◌, nat_lt, length, take, slice_index, Option, Some, None, if◌then◌else◌, Result, Ok, Err, bytes_eq, codes}
-use Rattle.ps_data.specs.Chains.{◌>>=◌}
+use Rattle.ps_data.specs.Chains.{◌>>=◌, or_fault}
 use Rattle.serde_json.specs.Data.{Data as Json, null, boolean, number, string, array, object, Items, no_items, item, Members, no_members, member}
 use Rattle.serde_json.specs.Find.{as_str}
 use Rattle.ps_data.specs.declared.ids.OpId.{OpId}
@@ -15,7 +15,7 @@ use Rattle.ps_lines.specs.declared.faults.LineFault.TheVariants.{BadJson, BadSha
 use Rattle.ps_lines.specs.declared.lines.Entry.{Entry}
 use Rattle.ps_lines.specs.declared.lines.Line.{Line}
 use Rattle.ps_lines.specs.declared.lines.Line.TheVariants.{Checkpoint, Diff, Data, Complete, Expires, Unknown}
-use Rattle.ps_lines.specs.Members.{or_fault, within, text_at, truth_at, list_at, decimal_at, id_at, sum_at, whole_of, whole_at, priority_at}
+use Rattle.ps_lines.specs.Members.{within, text_at, truth_at, list_at, decimal_at, id_at, sum_at, whole_of, whole_at, priority_at}
 use Rattle.ps_lines.specs.Shapes.{lacks, has_null, is_checkpoint, is_diff, is_data}
 
 -- an upload's number; a missing one and null are none

@@ -2,7 +2,7 @@
 use Rattle.std.proofs.Common.{◌≡◌, ℕ, ◌⊎◌, inl, inr, List, [], Option, Some, None, Ok, Err, Bool, true, false, refl, sym, ap, subst, ◌∙◌}
 use Rattle.std.specs.Prelude.{Result, bytes_eq, codes, length}
 use Rattle.std.proofs.lemmas.List.{append-nil}
-use Rattle.ps_data.specs.Chains.{◌>>=◌}
+use Rattle.ps_data.specs.Chains.{◌>>=◌, or_fault, holds}
 use Rattle.ps_io.specs.Sources.{Input, Gives}
 use Rattle.ps_lines.specs.declared.bodies.StreamBody.{StreamBody}
 use Rattle.ps_lines.specs.Bodies as lines
@@ -19,7 +19,7 @@ use Rattle.ps_serve.specs.declared.refusals.Refusal.{Refusal}
 use Rattle.ps_serve.specs.declared.refusals.Refusal.TheVariants.{Cut, BadRequest, Unauthorized, NotFound, NotAllowed, Conflict, LengthRequired, TooLarge, TooManyBuckets, Memory}
 use Rattle.ps_serve.specs.declared.ways.Way.{Way}
 use Rattle.ps_serve.specs.declared.ways.Way.TheVariants.{Number}
-use Rattle.ps_serve.specs.Refusals.{or_refusal, holds, or_bad, Reads, ReadsOr}
+use Rattle.ps_serve.specs.Refusals.{or_bad, Reads, ReadsOr}
 use Rattle.ps_serve.specs.Requests.{HasToken, IsOpen, way_of, method_of, token_in, admitted, verified, stated, length_for, length_of, stream_for, asked_stream, asked_number, asked_for, asked_of}
 use Rattle.ps_serve.specs.Reading.{HasBody, IsBehind, AsksBehind, count_of}
 
@@ -53,7 +53,7 @@ own_verified keys moment (Some value) = by_token (token_in value)
     by_claims (Ok claims) = tt
     by_claims (Err fault) = tt
 
-    by_token : (token : Option (List ℕ)) → AreOwn (or_refusal Unauthorized token >>= λ t. or_bad Unauthorized (accepts keys t moment))
+    by_token : (token : Option (List ℕ)) → AreOwn (or_fault Unauthorized token >>= λ t. or_bad Unauthorized (accepts keys t moment))
     by_token None = tt
     by_token (Some token) = by_claims (accepts keys token moment)
 
@@ -68,7 +68,7 @@ own_admitted keys moment head = by_way (way_of head.path)
     by_method way true = by_claims way (verified keys moment head.authorization) (own_verified keys moment head.authorization)
     by_method way false = tt
 
-    by_way : (way : Option Way) → AreOwn (or_refusal NotFound way >>= λ w. (holds NotAllowed (bytes_eq head.method (method_of w)) >>= λ _.
+    by_way : (way : Option Way) → AreOwn (or_fault NotFound way >>= λ w. (holds NotAllowed (bytes_eq head.method (method_of w)) >>= λ _.
         (verified keys moment head.authorization >>= λ c. Ok (pass_of w c))))
     by_way None = tt
     by_way (Some way) = by_method way (bytes_eq head.method (method_of way))
@@ -76,7 +76,7 @@ own_admitted keys moment head = by_way (way_of head.path)
 own_number : (claims : Claims) (query : List ℕ) → AreOwn (asked_number claims query)
 own_number claims query = by_client (query_value_of query (codes "client_id"))
   where
-    by_client : (client : Option (List ℕ)) → AreOwn (or_refusal BadRequest client >>= λ c. Ok (asked.Number claims.subject c))
+    by_client : (client : Option (List ℕ)) → AreOwn (or_fault BadRequest client >>= λ c. Ok (asked.Number claims.subject c))
     by_client None = tt
     by_client (Some client) = tt
 
@@ -121,7 +121,7 @@ token_of : (keys : List Key) (moment : ℕ) (authorization : Option (List ℕ)) 
 token_of keys moment None claims is = absurd (subst IsErr is tt)
 token_of keys moment (Some value) claims is = by_token (token_in value) refl is
   where
-    by_token : (token : Option (List ℕ)) → token_in value ≡ token → (or_refusal Unauthorized token >>= λ t. or_bad Unauthorized (accepts keys t moment)) ≡ Ok claims → HasToken (Some value)
+    by_token : (token : Option (List ℕ)) → token_in value ≡ token → (or_fault Unauthorized token >>= λ t. or_bad Unauthorized (accepts keys t moment)) ≡ Ok claims → HasToken (Some value)
     by_token None token_is is = absurd (subst IsErr is tt)
     by_token (Some token) token_is is = record { value = value; value_is = refl; token = token; token_is = token_is }
 
@@ -142,7 +142,7 @@ open_of keys moment head pass is = by_way (way_of head.path) refl is
     }
     by_method way way_is false same_is is = absurd (subst IsErr is tt)
 
-    by_way : (way : Option Way) → way_of head.path ≡ way → (or_refusal NotFound way >>= λ w. (holds NotAllowed (bytes_eq head.method (method_of w)) >>= λ _.
+    by_way : (way : Option Way) → way_of head.path ≡ way → (or_fault NotFound way >>= λ w. (holds NotAllowed (bytes_eq head.method (method_of w)) >>= λ _.
         (verified keys moment head.authorization >>= λ c. Ok (pass_of w c)))) ≡ Ok pass → IsOpen head
     by_way None way_is is = absurd (subst IsErr is tt)
     by_way (Some way) way_is is = by_method way way_is (bytes_eq head.method (method_of way)) refl is

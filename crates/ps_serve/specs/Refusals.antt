@@ -1,5 +1,5 @@
 -- Refusals: the status of each, and which fault of a lower reader is which.
-use Rattle.std.specs.Prelude.{◌≡◌, ℕ, Bool, true, false, Option, Some, None, Result, Ok, Err}
+use Rattle.std.specs.Prelude.{◌≡◌, ℕ, Result, Ok, Err}
 use Rattle.ps_changes.specs.declared.faults.ChangeFault.{ChangeFault}
 use Rattle.ps_changes.specs.declared.faults.ChangeFault.TheVariants as changes
 use Rattle.ps_http.specs.declared.bodies.BodyFault.{BodyFault}
@@ -65,16 +65,6 @@ refusal_of_change changes.BadValue = BadRequest
 refusal_of_change changes.Memory = Memory
 
 -- ---- one step after another
-
--- what is there, or else a refusal
-abbrev pub or_refusal : {A : Type 0} → Refusal → Option A → Result A Refusal
-or_refusal refusal (Some x) = Ok x
-or_refusal refusal None = Err refusal
-
--- a test holds, or else a refusal
-abbrev pub holds : Refusal → Bool → Result (Unit {0}) Refusal
-holds refusal true = Ok tt
-holds refusal false = Err refusal
 
 -- what was read, whatever a reader's fault is called
 abbrev pub or_bad : {A E : Type 0} → Refusal → Result A E → Result A Refusal

@@ -1,7 +1,7 @@
 -- What a request asks for, or the first refusal: a function of its head, its body and the moment at which its token is verified.
 use Rattle.std.specs.Prelude.{◌≡◌, ℕ, true, nat_eq, nat_lt, List, codes, bytes_eq, drop, Option, Some, None, Result, Ok, Err, if◌then◌else◌, ◌<◌, length, All}
 use Rattle.std.specs.List.{starts_with}
-use Rattle.ps_data.specs.Chains.{◌>>=◌}
+use Rattle.ps_data.specs.Chains.{◌>>=◌, or_fault, holds}
 use Rattle.ps_rows.specs.declared.changes.Change.{Change}
 use Rattle.ps_changes.specs.Lines as changes
 use Rattle.ps_http.specs.declared.heads.Head.{Head}
@@ -19,7 +19,7 @@ use Rattle.ps_serve.specs.declared.refusals.Refusal.{Refusal}
 use Rattle.ps_serve.specs.declared.refusals.Refusal.TheVariants.{BadRequest, Unauthorized, NotFound, NotAllowed, LengthRequired, TooLarge}
 use Rattle.ps_serve.specs.declared.ways.Way.{Way}
 use Rattle.ps_serve.specs.declared.ways.Way.TheVariants.{Stream, Number, Upload}
-use Rattle.ps_serve.specs.Refusals.{or_refusal, holds, or_bad}
+use Rattle.ps_serve.specs.Refusals.{or_bad}
 
 -- ---- the path and its method
 
@@ -47,14 +47,14 @@ token_in value =
 -- what the token of an Authorization field says, where it is accepted at a moment
 abbrev pub verified : List Key → ℕ → Option (List ℕ) → Result Claims Refusal
 verified keys now authorization = do
-  value ← or_refusal Unauthorized authorization
-  token ← or_refusal Unauthorized (token_in value)
+  value ← or_fault Unauthorized authorization
+  token ← or_fault Unauthorized (token_in value)
   or_bad Unauthorized (accepts keys token now)
 
 -- who asks for what
 abbrev pub admitted : List Key → ℕ → Head → Result Pass Refusal
 admitted keys now head = do
-  way ← or_refusal NotFound (way_of head.path)
+  way ← or_fault NotFound (way_of head.path)
   _ ← holds NotAllowed (bytes_eq head.method (method_of way))
   claims ← verified keys now head.authorization
   Ok (record { way = way; claims = claims })
@@ -110,7 +110,7 @@ asked_stream claims body = do
 
 abbrev pub asked_number : Claims → List ℕ → Result Asked Refusal
 asked_number claims query = do
-  client ← or_refusal BadRequest (query_value_of query (codes "client_id"))
+  client ← or_fault BadRequest (query_value_of query (codes "client_id"))
   Ok (asked.Number claims.subject client)
 
 abbrev pub asked_upload : List ℕ → Result Asked Refusal

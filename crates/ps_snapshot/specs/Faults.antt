@@ -1,5 +1,5 @@
 -- What reading a line of a first copy answers, and what a filling answers.
-use Rattle.std.specs.Prelude.{◌≡◌, Option, Some, None, Result, Ok, Err}
+use Rattle.std.specs.Prelude.{◌≡◌, Result, Ok, Err}
 use Rattle.ps_changes.specs.declared.faults.ChangeFault.{ChangeFault}
 use Rattle.ps_changes.specs.declared.faults.ChangeFault.TheVariants as changing
 use Rattle.ps_snapshot.specs.declared.faults.Failure.{Failure}
@@ -7,11 +7,6 @@ use Rattle.ps_snapshot.specs.declared.faults.Failure.TheVariants as failing
 use Rattle.ps_snapshot.specs.declared.faults.FillFault.{FillFault}
 use Rattle.ps_snapshot.specs.declared.faults.FillFault.TheVariants as filling
 use Rattle.ps_snapshot.specs.Types.{LineFault, LineTooLong, BadJson, BadShape, BadPosition, BadValue, BadChunk, NotRising, NotCovered, Memory}
-
--- what is there, or else a fault
-abbrev pub or_fault : {A : Type 0} → LineFault → Option A → Result A LineFault
-or_fault fault (Some x) = Ok x
-or_fault fault None = Err fault
 
 -- the fault of a change line
 abbrev pub fault_of : ChangeFault → LineFault

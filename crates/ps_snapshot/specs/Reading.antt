@@ -1,6 +1,6 @@
 -- The line of a first copy that bytes are, and the first fault of bytes that are none: docs/FORMATS.md, "First copies".
 use Rattle.std.specs.Prelude.{ℕ, List, [], ◌∷◌, nat_lt, length, codes, Option, Some, None, option_and_then, if◌then◌else◌, Result, Ok, Err}
-use Rattle.ps_data.specs.Chains.{◌>>=◌}
+use Rattle.ps_data.specs.Chains.{◌>>=◌, or_fault}
 use Rattle.serde_json.specs.Data.{Data as Json, null, boolean, number, string, array, object, Items, no_items, item}
 use Rattle.serde_json.specs.Find.{get, as_str, as_array, as_object}
 use Rattle.ps_data.specs.declared.columns.Column.{Column}
@@ -8,7 +8,7 @@ use Rattle.ps_data.specs.declared.ids.Position.{Position}
 use Rattle.ps_data.specs.Numbers.{decimal_of}
 use Rattle.ps_changes.specs.Lines as changes
 use Rattle.ps_snapshot.specs.Types.{CopiedRow, Chunk, Line, Begin, Rows, End, Changes, LineFault, BadChunk}
-use Rattle.ps_snapshot.specs.Faults.{or_fault, of_change, of_chunk}
+use Rattle.ps_snapshot.specs.Faults.{of_change, of_chunk}
 
 -- ---- members
 

@@ -2,11 +2,12 @@
 use Rattle.std.proofs.Common.{◌≡◌, Bool, true, false, cond, List, [], ◌∷◌, ◌++◌, Option, Some, None, Ok, Err, refl, sym, ap, ◌∙◌, append_assoc}
 use Rattle.std.specs.Prelude.{option_and_then}
 use Rattle.std.proofs.lemmas.List.{append-nil}
+use Rattle.ps_data.specs.Chains.{or_fault}
 use Rattle.serde_json.specs.Data.{Data as Json, Items, no_items, item}
 use Rattle.ps_token.specs.declared.key_lists.Key.{Key}
 use Rattle.ps_token.specs.declared.faults.KeysFault.{KeysFault}
 use Rattle.ps_token.specs.declared.faults.KeysFault.TheVariants.{BadJson, BadShape, Memory}
-use Rattle.ps_token.specs.Members.{or_fault, ReadsKeys}
+use Rattle.ps_token.specs.Members.{ReadsKeys}
 use Rattle.ps_token.specs.KeyLists.{are_distinct}
 use Rattle.ps_token.specs.KeyFiles.{is_oct_key, oct_key, keys_of, distinct_keys, keys_from, one_more}
 use Rattle.ps_token.proofs.KeyLaws.{distinct_front}

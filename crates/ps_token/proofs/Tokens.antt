@@ -3,7 +3,7 @@ use Rattle.std.proofs.Common.{◌≡◌, ℕ, ◌<◌, Bool, true, false, List, 
 use Rattle.std.specs.Prelude.{nat_lt, option_and_then}
 use Rattle.std.proofs.lemmas.Bool.{ltb-true}
 use Rattle.std.proofs.lemmas.Slice.Eq.{bytes_eq-Decides}
-use Rattle.ps_data.specs.Chains.{◌>>=◌}
+use Rattle.ps_data.specs.Chains.{◌>>=◌, or_fault, holds}
 use Rattle.serde_json.specs.Data.{Data as Json, null, boolean, number, string, array, object, unsigned, negative, float}
 use Rattle.serde_json.specs.Find.{get, as_str, as_number, as_u64}
 use Rattle.serde_json.specs.Written.{compact_text}
@@ -15,7 +15,6 @@ use Rattle.ps_token.specs.declared.key_lists.Key.{Key}
 use Rattle.ps_token.specs.declared.faults.TokenFault.{TokenFault}
 use Rattle.ps_token.specs.declared.faults.TokenFault.TheVariants.{Malformed, UnknownKey, BadSignature, Expired, NoSubject}
 use Rattle.ps_token.specs.Macs.{hmac}
-use Rattle.ps_token.specs.Members.{or_fault, holds}
 use Rattle.ps_token.specs.KeyLists.{key_of, only_key, key_named, HaveDistinctKids}
 use Rattle.ps_token.specs.Parts.{Parts, part_of, bytes_of, joined, parts_of, signed_of}
 use Rattle.ps_token.specs.Payloads.{json_of_part, is_text, kid_in, kid_of, exp_of, claims_of}

@@ -1,5 +1,6 @@
 -- Key files: docs/FORMATS.md, "Keys".
 use Rattle.std.specs.Prelude.{◌≡◌, ◌≢◌, ℕ, Bool, if◌then◌else◌, List, [], ◌∷◌, ◌++◌, codes, bytes_eq, Option, Some, None, option_and_then, option_map, Result, Err}
+use Rattle.ps_data.specs.Chains.{or_fault}
 use Rattle.ps_data.specs.OptionChains.{◌>>=◌}
 use Rattle.serde_json.specs.Data.{Data as Json, string, array, Items, no_items, item}
 use Rattle.serde_json.specs.Find.{get, as_str, as_array}
@@ -7,7 +8,6 @@ use Rattle.ps_data.specs.Documents.{json_of}
 use Rattle.ps_token.specs.declared.key_lists.Key.{Key}
 use Rattle.ps_token.specs.declared.faults.KeysFault.{KeysFault}
 use Rattle.ps_token.specs.declared.faults.KeysFault.TheVariants.{BadJson, BadShape}
-use Rattle.ps_token.specs.Members.{or_fault}
 use Rattle.ps_token.specs.KeyLists.{are_distinct, HaveDistinctKids}
 use Rattle.ps_token.specs.Parts.{bytes_of}
 

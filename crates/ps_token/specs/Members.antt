@@ -1,21 +1,11 @@
 -- What reading answers, one step after another.
-use Rattle.std.specs.Prelude.{◌≡◌, Bool, true, false, Option, Some, None, Result, Ok, Err, IsOk}
+use Rattle.std.specs.Prelude.{◌≡◌, Result, Ok, Err, IsOk}
 use Rattle.ps_token.specs.declared.faults.KeysFault.{KeysFault}
 use Rattle.ps_token.specs.declared.faults.KeysFault.TheVariants as keys
 use Rattle.ps_token.specs.declared.faults.SignFault.{SignFault}
 use Rattle.ps_token.specs.declared.faults.SignFault.TheVariants as sign
 use Rattle.ps_token.specs.declared.faults.TokenFault.{TokenFault}
 use Rattle.ps_token.specs.declared.faults.TokenFault.TheVariants as token
-
--- what is there, or else a fault
-abbrev pub or_fault : {A E : Type 0} → E → Option A → Result A E
-or_fault fault (Some x) = Ok x
-or_fault fault None = Err fault
-
--- a test holds, or else a fault
-abbrev pub holds : {E : Type 0} → E → Bool → Result (Unit {0}) E
-holds fault true = Ok tt
-holds fault false = Err fault
 
 -- an answer by what is seen of it
 abbrev pub seen_by : {X Y E : Type 0} → (X → Y) → Result X E → Result Y E

@@ -1,6 +1,6 @@
 -- What the header and the payload of a token say: docs/FORMATS.md, "Tokens".
 use Rattle.std.specs.Prelude.{ℕ, Bool, false, List, codes, bytes_eq, Option, Some, None, option_and_then, Result, Ok}
-use Rattle.ps_data.specs.Chains.{◌>>=◌}
+use Rattle.ps_data.specs.Chains.{◌>>=◌, or_fault, holds}
 use Rattle.serde_json.specs.Data.{Data as Json}
 use Rattle.serde_json.specs.Find.{get, as_str, as_number, as_u64}
 use Rattle.serde_json.specs.Written.{compact_text}
@@ -9,7 +9,6 @@ use Rattle.ps_data.specs.Documents.{json_of}
 use Rattle.ps_token.specs.declared.claim_sets.Claims.{Claims}
 use Rattle.ps_token.specs.declared.faults.TokenFault.{TokenFault}
 use Rattle.ps_token.specs.declared.faults.TokenFault.TheVariants.{Malformed, NoSubject}
-use Rattle.ps_token.specs.Members.{or_fault, holds}
 use Rattle.ps_token.specs.Parts.{bytes_of}
 
 -- the JSON of a part

@@ -1,6 +1,6 @@
 -- Which tokens are accepted, which refusal is the first, and which token is signed.
 use Rattle.std.specs.Prelude.{◌≡◌, ℕ, nat_lt, List, codes, bytes_eq, Some, Result, Ok}
-use Rattle.ps_data.specs.Chains.{◌>>=◌}
+use Rattle.ps_data.specs.Chains.{◌>>=◌, or_fault, holds}
 use Rattle.serde_json.specs.Data.{Data as Json, string, object, no_members, member}
 use Rattle.serde_json.specs.Written.{compact_text}
 use Rattle.ps_data.specs.Documents.{json_of}
@@ -12,7 +12,6 @@ use Rattle.ps_token.specs.declared.faults.TokenFault.TheVariants as token
 use Rattle.ps_token.specs.declared.faults.SignFault.{SignFault}
 use Rattle.ps_token.specs.declared.faults.SignFault.TheVariants as sign
 use Rattle.ps_token.specs.Macs.{hmac}
-use Rattle.ps_token.specs.Members.{or_fault, holds}
 use Rattle.ps_token.specs.KeyLists.{key_of, key_named}
 use Rattle.ps_token.specs.Parts.{Parts, part_of, bytes_of, joined, parts_of, signed_of}
 use Rattle.ps_token.specs.Payloads.{json_of_part, kid_of, exp_of, claims_of}

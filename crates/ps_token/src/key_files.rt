@@ -1,9 +1,10 @@
 ghost use Rattle.std.specs.Prelude.{◌≡◌, List, [], ◌∷◌, ◌++◌, IfOk, Ok, Err};
 ghost use Rattle.std.specs.Str.{IsUtf8};
+ghost use Rattle.ps_data.specs.Chains.{or_fault};
 ghost use Rattle.ps_token.specs.Types.{Key as KeyData};
 ghost use Rattle.serde_json.specs.View.{view, items_view};
 ghost use Rattle.ps_token.specs.declared.faults.KeysFault.TheVariants.{BadJson, BadShape};
-ghost use Rattle.ps_token.specs.Members.{ReadsKeys, or_fault};
+ghost use Rattle.ps_token.specs.Members.{ReadsKeys};
 ghost use Rattle.ps_token.specs.KeyFiles.{text_at, is_oct_key, oct_key, distinct_keys, one_more, keys_in, keys_from, keys_of_file, IsKeyFile};
 
 use crate::parts::decoded;

@@ -1,10 +1,10 @@
 use Rattle.std.proofs.Common.{Some, None, cond, sym, ap, ◌∙◌}
+use Rattle.ps_data.specs.Chains.{or_fault}
 use Rattle.json.specs.Json.{value}
 use Rattle.json.specs.Lex.{tokens}
 use Rattle.json.specs.Value.{value_view}
 use Rattle.serde_json.specs.Read.{max_depth}
 use Rattle.ps_changes.specs.Types.{BadJson}
-use Rattle.ps_changes.specs.Members.{or_fault}
 use Rattle.ps_changes.specs.Borrowed.{data_in}
 use Rattle.ps_changes.proofs.Borrowing.{whole, more_behind, some_left, none_left, of_text, no_text}
 use Rattle.ps_changes.proofs.borrowed.read_borrowed.Goals as goal
