@@ -1,11 +1,10 @@
 //! What a script asks of the store for new rules.
 
-ghost use Rattle.std.specs.Prelude.{◌≡◌, ◌≤◌, List, Some, IfOk};
+ghost use Rattle.std.specs.Prelude.{◌≡◌, ◌≤◌, Some, IfOk};
 ghost use Rattle.ps_definitions.specs.RuleSets.{RuleSet};
 ghost use Rattle.ps_script.specs.declared.events.ScriptEvent.TheVariants as events;
-ghost use Rattle.ps_store.specs.declared.events.Event.{Event as EventSeen};
 ghost use Rattle.ps_store.specs.declared.fixed.Fixed.{Fixed as FixedSeen};
-ghost use Rattle.ps_store.specs.Stores.{StoreStandsFor};
+ghost use Rattle.ps_store.specs.Stores.{StoreStandsFor, HasHistory};
 ghost use Rattle.ps_core.specs.Plays.{Play};
 ghost use Rattle.ps_core.specs.Parts.{CameStill};
 
@@ -17,7 +16,7 @@ use std::alloc::Global;
 
 // Begins a generation of the next rules.
 pub(crate) fn deploy(alloc: Global, store: &mut Store, next: &Rules) -> Result<Effect, Memory>
-    requires { (fixed : FixedSeen) × (history : List EventSeen) × StoreStandsFor fixed store.old history }
+    requires { HasHistory store.old }
     ensures { IfOk result (λ effect. (fixed : FixedSeen) (play : Play) → StoreStandsFor fixed store.old play.history → play.next ≡ Some next.now
         → CameStill fixed play events.Deploy store.new effect) }
 {
@@ -34,7 +33,7 @@ pub(crate) fn deploy(alloc: Global, store: &mut Store, next: &Rules) -> Result<E
 pub(crate) fn build(alloc: Global, store: &mut Store, limit: u32) -> Result<Effect, Memory>
     requires some { 1 ≤ limit }
     requires limit { limit ≤ 1000000 }
-    requires stands { (fixed : FixedSeen) × (history : List EventSeen) × StoreStandsFor fixed store.old history }
+    requires stands { HasHistory store.old }
     ensures { IfOk result (λ effect. (fixed : FixedSeen) (play : Play) → StoreStandsFor fixed store.old play.history
         → CameStill fixed play (events.Build limit) store.new effect) }
 {
@@ -50,7 +49,7 @@ pub(crate) fn build(alloc: Global, store: &mut Store, limit: u32) -> Result<Effe
 
 // Brings the generation that is being built into force.
 pub(crate) fn switch(store: &mut Store) -> Effect
-    requires { (fixed : FixedSeen) × (history : List EventSeen) × StoreStandsFor fixed store.old history }
+    requires { HasHistory store.old }
     ensures { (fixed : FixedSeen) (play : Play) → StoreStandsFor fixed store.old play.history → CameStill fixed play events.Switch store.new result }
 {
     match store.switch() {
@@ -64,7 +63,7 @@ pub(crate) fn switch(store: &mut Store) -> Effect
 
 // Drops the generation that is being built.
 pub(crate) fn abandon(store: &mut Store) -> Effect
-    requires { (fixed : FixedSeen) × (history : List EventSeen) × StoreStandsFor fixed store.old history }
+    requires { HasHistory store.old }
     ensures { (fixed : FixedSeen) (play : Play) → StoreStandsFor fixed store.old play.history → CameStill fixed play events.Abandon store.new result }
 {
     match store.abandon() {

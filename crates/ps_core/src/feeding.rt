@@ -4,7 +4,7 @@ ghost use Rattle.std.specs.Prelude.{◌≡◌, List, IfOk, IfSome};
 ghost use Rattle.ps_store.specs.declared.events.Event.{Event as EventSeen};
 ghost use Rattle.ps_store.specs.declared.fixed.Fixed.{Fixed as FixedSeen};
 ghost use Rattle.ps_store.specs.Ledgers.{ledger_of};
-ghost use Rattle.ps_store.specs.Stores.{StoreStandsFor};
+ghost use Rattle.ps_store.specs.Stores.{StoreStandsFor, HasHistory};
 ghost use Rattle.ps_core.specs.Plays.{Play};
 ghost use Rattle.ps_core.specs.StoreEvents.{feed_refusal};
 ghost use Rattle.ps_core.specs.Texts.{IsPrintable};
@@ -47,7 +47,7 @@ fn feed_next(
     count: u64,
 ) -> Result<Option<Effect>, Memory>
     requires low { AreLow left.old.items }
-    requires stands { (fixed : FixedSeen) × (history : List EventSeen) × StoreStandsFor fixed store.old history }
+    requires stands { HasHistory store.old }
     ensures low { IfOk result (λ _. AreLow left.new.items) }
     ensures goes { IfOk result (λ end. (fixed : FixedSeen) (history : List EventSeen) → StoreStandsFor fixed store.old history
         → Goes fixed history count left.old.items store.new left.new.items end) }

@@ -1,10 +1,9 @@
 //! What a script asks of the store besides feeding.
 
-ghost use Rattle.std.specs.Prelude.{◌≤◌, List, IfOk};
+ghost use Rattle.std.specs.Prelude.{◌≤◌, IfOk};
 ghost use Rattle.ps_script.specs.declared.events.ScriptEvent.TheVariants as events;
-ghost use Rattle.ps_store.specs.declared.events.Event.{Event as EventSeen};
 ghost use Rattle.ps_store.specs.declared.fixed.Fixed.{Fixed as FixedSeen};
-ghost use Rattle.ps_store.specs.Stores.{StoreStandsFor};
+ghost use Rattle.ps_store.specs.Stores.{StoreStandsFor, HasHistory};
 ghost use Rattle.ps_core.specs.Plays.{Play};
 ghost use Rattle.ps_core.specs.Parts.{CameStill};
 
@@ -25,7 +24,7 @@ pub(crate) fn close(store: &mut Store) -> Effect
 pub(crate) fn write(alloc: Global, store: &mut Store, limit: u32) -> Result<Effect, Memory>
     requires some { 1 ≤ limit }
     requires limit { limit ≤ 1000000 }
-    requires stands { (fixed : FixedSeen) × (history : List EventSeen) × StoreStandsFor fixed store.old history }
+    requires stands { HasHistory store.old }
     ensures { IfOk result (λ effect. (fixed : FixedSeen) (play : Play) → StoreStandsFor fixed store.old play.history
         → CameStill fixed play (events.Write limit) store.new effect) }
 {

@@ -3,7 +3,7 @@
 ghost use Rattle.std.specs.Prelude.{◌≡◌, List, length, IfOk};
 ghost use Rattle.ps_store.specs.declared.events.Event.{Event as EventSeen};
 ghost use Rattle.ps_store.specs.declared.fixed.Fixed.{Fixed as FixedSeen};
-ghost use Rattle.ps_store.specs.Stores.{StoreStandsFor};
+ghost use Rattle.ps_store.specs.Stores.{StoreStandsFor, HasHistory};
 ghost use Rattle.ps_client.specs.States.{state};
 ghost use Rattle.ps_store.specs.Courses.{course_of};
 ghost use Rattle.ps_session.specs.Kept.{state_of};
@@ -66,7 +66,7 @@ fn rows_of(
 /// its bytes and read from them: exactly those that are due to the asker at the checkpoint's position. `TooManyBuckets`
 /// exactly where the asker has more buckets than the limit; else it may be out of memory.
 pub fn synced_rows(alloc: Global, store: &Store, asker: Asker) -> Result<Items<Shown>, TakeFault>
-    requires { (fixed : FixedSeen) × (history : List EventSeen) × StoreStandsFor fixed store.now history }
+    requires { HasHistory store.now }
     ensures { (fixed : FixedSeen) (history : List EventSeen) → StoreStandsFor fixed store.now history
         → Syncs fixed history asker result }
 {

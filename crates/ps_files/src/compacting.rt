@@ -4,7 +4,7 @@ ghost use Rattle.std.specs.Prelude.{◌≡◌, ◌≢◌, ◌≤◌, ◌<◌, �
 ghost use Rattle.ps_store.specs.declared.events.Event.{Event as EventSeen};
 ghost use Rattle.ps_store.specs.declared.fixed.Fixed.{Fixed as FixedSeen};
 ghost use Rattle.ps_store.specs.Ledgers.{ledger_of, force_ops};
-ghost use Rattle.ps_store.specs.Stores.{StoreStandsFor};
+ghost use Rattle.ps_store.specs.Stores.{StoreStandsFor, HasHistory};
 ghost use Rattle.ps_files.specs.Compacting.{CompactsOne, FindsReports, RefusesReports, Reports, reports_of, report_line, reports_text};
 ghost use Rattle.ps_files.specs.Loading.{Loads, MissesNamed};
 
@@ -42,7 +42,7 @@ fn compact_one(alloc: Global, store: &mut Store, bucket: &Text) -> Result<Report
 /// Compacts each bucket of a store once, at the checkpoint's op and in the order of their names, and gives the reports.
 /// Fails where it is out of memory; some buckets are compacted then.
 pub fn compact_all(alloc: Global, store: &mut Store) -> Result<Items<Compacted>, Memory>
-    requires { (fixed : FixedSeen) × (history : List EventSeen) × StoreStandsFor fixed store.old history }
+    requires { HasHistory store.old }
     ensures { IfOk result (λ reports. (fixed : FixedSeen) (history : List EventSeen) → StoreStandsFor fixed store.old history → reports ≡ reports_of (ledger_of fixed.rules history)) }
 {
     totals_tell_histories();
@@ -87,7 +87,7 @@ fn print_reports(alloc: Global, reports: &[Compacted]) -> Result<Vec<u8>, Memory
 
 // Compacts each bucket of a store, and prints the reports.
 fn print_compacted(alloc: Global, store: &mut Store) -> Result<Vec<u8>, Memory>
-    requires { (fixed : FixedSeen) × (history : List EventSeen) × StoreStandsFor fixed store.old history }
+    requires { HasHistory store.old }
     ensures { IfOk result (λ text. (fixed : FixedSeen) (history : List EventSeen) → StoreStandsFor fixed store.old history → text.items ≡ reports_text (reports_of (ledger_of fixed.rules history))) }
 {
     let reports = compact_all(alloc, store)?;

@@ -5,7 +5,7 @@ ghost use Rattle.ps_store.specs.declared.events.Event.{Event as EventSeen};
 ghost use Rattle.ps_store.specs.declared.fixed.Fixed.{Fixed as FixedSeen};
 ghost use Rattle.ps_serve.specs.Alone.{Does, Answers};
 ghost use Rattle.ps_serve.specs.Requests.{AreFilled};
-ghost use Rattle.ps_store.specs.Stores.{StoreStandsFor};
+ghost use Rattle.ps_store.specs.Stores.{StoreStandsFor, HasHistory};
 
 use crate::asked::Asked;
 use crate::changing::{answer_number, answer_upload};
@@ -28,7 +28,7 @@ fn answer<K: Sink, C: Clock>(
     clock: &C,
 ) -> (u16, End)
     requires filled { AreFilled asked }
-    requires serves { (fixed : FixedSeen) × (history : List EventSeen) × StoreStandsFor fixed store.old history }
+    requires serves { HasHistory store.old }
     ensures does { (fixed : FixedSeen) (history : List EventSeen) → StoreStandsFor fixed store.old history
         → Does (C.may_give clock.now) fixed history asked store.old store.new (K.taken to.old) (K.taken to.new) (K.faults to.old) (K.faults to.new) result.0 result.1 }
     ensures faults { K.faults to.old ≤ K.faults to.new }
@@ -70,7 +70,7 @@ pub fn answer_alone<S: Source, K: Sink, C: Clock>(
     to: &mut K,
     clock: &C,
 ) -> (u16, End)
-    requires { (fixed : FixedSeen) × (history : List EventSeen) × StoreStandsFor fixed store.old history }
+    requires { HasHistory store.old }
     // What the bytes of the request ask for, and what was done and written then.
     ensures answers { (fixed : FixedSeen) (history : List EventSeen) → StoreStandsFor fixed store.old history
         → Answers (C.may_give clock.now) site.now.keys fixed history (S.input from.old) (S.input from.new) (S.faults from.old) (S.faults from.new)

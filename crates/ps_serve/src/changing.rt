@@ -4,7 +4,7 @@ ghost use Rattle.std.specs.Prelude.{◌≡◌, ◌≤◌, ◌<◌, List, length,
 ghost use Rattle.ps_rows.specs.declared.changes.Change.{Change as ChangeSeen};
 ghost use Rattle.ps_store.specs.declared.events.Event.{Event as EventSeen};
 ghost use Rattle.ps_store.specs.declared.fixed.Fixed.{Fixed as FixedSeen};
-ghost use Rattle.ps_store.specs.Stores.{StoreStandsFor};
+ghost use Rattle.ps_store.specs.Stores.{StoreStandsFor, HasHistory};
 ghost use Rattle.ps_serve.specs.declared.ends.End.TheVariants as ends;
 ghost use Rattle.ps_serve.specs.Answers.{IsWritten, body_answer, number_text as number_told, position_text as position_told};
 ghost use Rattle.ps_serve.specs.Changing.{AnswersNumber, AnswersUpload};
@@ -51,7 +51,7 @@ pub fn answer_number<K: Sink>(
     client: &Text,
     to: &mut K,
 ) -> (u16, End)
-    requires { (fixed : FixedSeen) × (history : List EventSeen) × StoreStandsFor fixed store.old history }
+    requires { HasHistory store.old }
     ensures answers { (fixed : FixedSeen) (history : List EventSeen) → StoreStandsFor fixed store.old history
         → AnswersNumber fixed history user.now client.now store.new (K.taken to.old) (K.taken to.new) (K.faults to.old) (K.faults to.new) result.0 result.1 }
     ensures faults { K.faults to.old ≤ K.faults to.new }
@@ -72,7 +72,7 @@ pub fn answer_upload<K: Sink>(
     to: &mut K,
 ) -> (u16, End)
     requires tables { All (λ (change : ChangeSeen). 0 < length change.table) changes }
-    requires stands { (fixed : FixedSeen) × (history : List EventSeen) × StoreStandsFor fixed store.old history }
+    requires stands { HasHistory store.old }
     ensures answers { (fixed : FixedSeen) (history : List EventSeen) → StoreStandsFor fixed store.old history
         → AnswersUpload fixed history changes store.new (K.taken to.old) (K.taken to.new) (K.faults to.old) (K.faults to.new) result.0 result.1 }
     ensures faults { K.faults to.old ≤ K.faults to.new }

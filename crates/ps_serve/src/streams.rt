@@ -6,7 +6,7 @@ ghost use Rattle.ps_lines.specs.declared.lines.Line.{Line as LineSeen};
 ghost use Rattle.ps_lines.specs.Writing.{IsWritable};
 ghost use Rattle.ps_store.specs.declared.events.Event.{Event as EventSeen};
 ghost use Rattle.ps_store.specs.declared.fixed.Fixed.{Fixed as FixedSeen};
-ghost use Rattle.ps_store.specs.Stores.{StoreStandsFor};
+ghost use Rattle.ps_store.specs.Stores.{StoreStandsFor, HasHistory};
 ghost use Rattle.ps_session.specs.declared.actions.Action.TheVariants as actions;
 ghost use Rattle.ps_session.specs.declared.phases.Phase.TheVariants.{Start, Download};
 ghost use Rattle.ps_session.specs.Kept.{state_of};
@@ -60,7 +60,7 @@ fn turn(alloc: Global, store: &Store, session: &mut Session) -> Result<Option<Li
 // Takes the first checkpoint.
 fn take(alloc: Global, store: &Store, session: &mut Session) -> Result<Option<Line>, TakeFault>
     requires start { (state_of session.old).phase ≡ Start }
-    requires serves { (fixed : FixedSeen) × (history : List EventSeen) × StoreStandsFor fixed store.now history }
+    requires serves { HasHistory store.now }
     ensures takes { (fixed : FixedSeen) (history : List EventSeen) → StoreStandsFor fixed store.now history
         → Takes fixed history session.old.asker (turn_for fixed history session.old) (state_of session.new) result }
     ensures writable { IfOk result (λ line. IfSome line IsWritable) }
@@ -200,7 +200,7 @@ fn go_on<K: Sink, C: Clock>(
 // The bytes of the first checkpoint's line.
 fn first_line(alloc: Global, store: &Store, session: &mut Session) -> Result<Vec<u8>, Refusal>
     requires start { (state_of session.old).phase ≡ Start }
-    requires serves { (fixed : FixedSeen) × (history : List EventSeen) × StoreStandsFor fixed store.now history }
+    requires serves { HasHistory store.now }
     ensures begins { (fixed : FixedSeen) (history : List EventSeen) → StoreStandsFor fixed store.now history
         → Begins fixed history session.old.asker (turn_for fixed history session.old) (state_of session.new) result }
     ensures asker { session.new.asker ≡ session.old.asker }
@@ -238,7 +238,7 @@ fn stream_from<K: Sink, C: Clock>(
     exp: u64,
 ) -> (u16, End)
     requires start { (state_of session.old).phase ≡ Start }
-    requires serves { (fixed : FixedSeen) × (history : List EventSeen) × StoreStandsFor fixed store.now history }
+    requires serves { HasHistory store.now }
     ensures streams { (fixed : FixedSeen) (history : List EventSeen) (positions : List KnownSeen) → StoreStandsFor fixed store.now history
         → state_of session.old ≡ begin (requested_in positions)
         → Streams (C.may_give clock.now) exp fixed history session.old.asker positions (K.taken to.old) (K.taken to.new) (K.faults to.old) (K.faults to.new) result.0 result.1 }
@@ -271,7 +271,7 @@ pub fn answer_stream<K: Sink, C: Clock>(
     clock: &C,
     exp: u64,
 ) -> (u16, End)
-    requires { (fixed : FixedSeen) × (history : List EventSeen) × StoreStandsFor fixed store.now history }
+    requires { HasHistory store.now }
     ensures streams { (fixed : FixedSeen) (history : List EventSeen) → StoreStandsFor fixed store.now history
         → Streams (C.may_give clock.now) exp fixed history request.asker request.positions (K.taken to.old) (K.taken to.new) (K.faults to.old) (K.faults to.new) result.0 result.1 }
     ensures faults { K.faults to.old ≤ K.faults to.new }

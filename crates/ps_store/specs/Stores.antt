@@ -108,6 +108,10 @@ pub record StoreStandsFor (fixed : Fixed) (store : Store) (history : List Event)
   pub legal : IsLegal fixed.rules history
   pub stands : Stands store (ledger_of fixed.rules history)
 
+-- it stands for some history
+abbrev pub HasHistory : Store → Type 0
+HasHistory store = (fixed : Fixed) × (history : List Event) × StoreStandsFor fixed store history
+
 -- ---- within a call
 
 -- what is held stays

@@ -6,7 +6,7 @@ ghost use Rattle.ps_store.specs.declared.fixed.Fixed.{Fixed as FixedSeen};
 ghost use Rattle.ps_store.specs.Deploys.{Deploys, Builds, Switches, Abandons};
 ghost use Rattle.ps_store.specs.Ledgers.{ledger_of};
 ghost use Rattle.ps_store.specs.Readings.{building_of, committed_of};
-ghost use Rattle.ps_store.specs.Stores.{StoreStandsFor};
+ghost use Rattle.ps_store.specs.Stores.{StoreStandsFor, HasHistory};
 
 use crate::building::Building;
 use crate::deploying::{BuildFault, Built, DeployFault, NothingBuilding, SwitchFault};
@@ -23,7 +23,7 @@ impl Store {
     /// `Building`, and `GenerationFull` where the last number that was ever begun is the limit. Room for all that `switch` and
     /// `abandon` keep is made here. Refused rules are dropped.
     pub fn deploy(&mut self, alloc: Global, rules: Rules) -> Result<u32, DeployFault>
-        requires { (fixed : FixedSeen) × (history : List EventSeen) × StoreStandsFor fixed self.old history }
+        requires { HasHistory self.old }
         ensures { (fixed : FixedSeen) (history : List EventSeen) → StoreStandsFor fixed self.old history → Deploys fixed history rules self.new result }
     {
         if let Some(building) = &self.generations.building {
@@ -58,7 +58,7 @@ impl Store {
     pub fn build_batch(&mut self, alloc: Global, limit: u32) -> Result<Built, BuildFault>
         requires some { 1 ≤ limit }
         requires limit { limit ≤ 1000000 }
-        requires stands { (fixed : FixedSeen) × (history : List EventSeen) × StoreStandsFor fixed self.old history }
+        requires stands { HasHistory self.old }
         ensures { (fixed : FixedSeen) (history : List EventSeen) → StoreStandsFor fixed self.old history → Builds fixed history limit self.new result }
     {
         let Some(building) = &mut self.generations.building else {
@@ -82,7 +82,7 @@ impl Store {
     /// `NothingBuilding`; `NotBuilt` where its queue is not empty; `HalfWritten` where changes past what is reached are written;
     /// and `OpsFull` where no id is left. Takes no memory.
     pub fn switch(&mut self) -> Result<Checkpoint, SwitchFault>
-        requires { (fixed : FixedSeen) × (history : List EventSeen) × StoreStandsFor fixed self.old history }
+        requires { HasHistory self.old }
         ensures { (fixed : FixedSeen) (history : List EventSeen) → StoreStandsFor fixed self.old history → Switches fixed history self.new result }
     {
         let Some(building) = &self.generations.building else {
@@ -119,7 +119,7 @@ impl Store {
     /// Drops the generation that is being built, and gives its number. `NothingBuilding` exactly where none is. What it held is
     /// given back. Takes no memory.
     pub fn abandon(&mut self) -> Result<u32, NothingBuilding>
-        requires { (fixed : FixedSeen) × (history : List EventSeen) × StoreStandsFor fixed self.old history }
+        requires { HasHistory self.old }
         ensures { (fixed : FixedSeen) (history : List EventSeen) → StoreStandsFor fixed self.old history → Abandons fixed history self.new result }
     {
         match self.generations.abandon() {

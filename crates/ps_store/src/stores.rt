@@ -16,7 +16,7 @@ ghost use Rattle.ps_store.specs.Rows.{row_at};
 ghost use Rattle.ps_store.specs.Reach.{reached};
 ghost use Rattle.ps_store.specs.Tails.{Tied, HasPlaces, NotFalling, AreRowsOf};
 ghost use Rattle.ps_store.specs.Totals.{totals_of, bucket_names_of, HaveRoom};
-ghost use Rattle.ps_store.specs.Stores.{StoreStandsFor, Writes, Feeds, Commits, Compacts, IsSame, IsFilled, IsTooWide, IsNamed, Uploads, MakesNumber};
+ghost use Rattle.ps_store.specs.Stores.{StoreStandsFor, Writes, Feeds, Commits, Compacts, IsSame, IsFilled, IsTooWide, IsNamed, Uploads, MakesNumber, HasHistory};
 ghost use Rattle.ps_store.specs.StoreGenerations.{by_of, ending_from, log_of, FitsQueue, IsCopyOf, IsMarked};
 
 use crate::faults::{CompactFault, FeedFault, NothingToCommit, WriteFault};
@@ -146,7 +146,7 @@ impl Store {
     /// `NotRising` where its position is not past that of the last fed one. A refused transaction is dropped.
     pub fn feed(&mut self, _alloc: Global, transaction: Transaction) -> Result<(), FeedFault>
         requires position { transaction.position.0 ≤ greatest }
-        requires stands { (fixed : FixedSeen) × (history : List EventSeen) × StoreStandsFor fixed self.old history }
+        requires stands { HasHistory self.old }
         ensures { (fixed : FixedSeen) (history : List EventSeen) → StoreStandsFor fixed self.old history → Feeds fixed history transaction self.new result }
     {
         if self.closed {
@@ -169,7 +169,7 @@ impl Store {
     /// `PositionFull` where the head is at the limit of positions or past it. No table is empty. Refused changes are dropped.
     pub fn upload(&mut self, alloc: Global, changes: Items<Change>) -> Result<Position, FeedFault>
         requires tables { All (λ (change : ChangeSeen). 0 < length change.table) changes }
-        requires stands { (fixed : FixedSeen) × (history : List EventSeen) × StoreStandsFor fixed self.old history }
+        requires stands { HasHistory self.old }
         ensures { (fixed : FixedSeen) (history : List EventSeen) → StoreStandsFor fixed self.old history → Uploads fixed history changes self.new result }
     {
         if self.closed {
@@ -304,7 +304,7 @@ impl Store {
     pub fn write_batch(&mut self, alloc: Global, limit: u32) -> Result<Wrote, WriteFault>
         requires some { 1 ≤ limit }
         requires limit { limit ≤ 1000000 }
-        requires stands { (fixed : FixedSeen) × (history : List EventSeen) × StoreStandsFor fixed self.old history }
+        requires stands { HasHistory self.old }
         ensures { (fixed : FixedSeen) (history : List EventSeen) → StoreStandsFor fixed self.old history → Writes fixed history limit self.new result }
     {
         if self.tail.changes.is_empty() {
@@ -398,7 +398,7 @@ impl Store {
         asker: &Asker,
         steps: &mut Steps<L>,
     ) -> Result<Taken, TakeFault>
-        requires { (fixed : FixedSeen) × (history : List EventSeen) × StoreStandsFor fixed self.now history }
+        requires { HasHistory self.now }
         ensures takes { (fixed : FixedSeen) (history : List EventSeen) → StoreStandsFor fixed self.now history → Takes fixed history asker.now result }
         ensures cost { (fixed : FixedSeen) (history : List EventSeen) → StoreStandsFor fixed self.now history
             → TakesFew (ledger_of fixed.rules history) asker.now steps.old steps.new }
@@ -457,7 +457,7 @@ impl Store {
         user: &Text,
         client: &Text,
     ) -> Result<u64, NumberFault>
-        requires { (fixed : FixedSeen) × (history : List EventSeen) × StoreStandsFor fixed self.old history }
+        requires { HasHistory self.old }
         ensures { (fixed : FixedSeen) (history : List EventSeen) → StoreStandsFor fixed self.old history → MakesNumber fixed history user.now client.now self.new result }
     {
         self.numbers.make(alloc, user, client, self.head)

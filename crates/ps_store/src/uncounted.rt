@@ -5,7 +5,7 @@ ghost use Rattle.ps_store.specs.declared.events.Event.{Event as EventSeen};
 ghost use Rattle.ps_store.specs.declared.fixed.Fixed.{Fixed as FixedSeen};
 ghost use Rattle.ps_store.specs.Ledgers.{ledger_of};
 ghost use Rattle.ps_store.specs.Readings.{Takes, batch_of};
-ghost use Rattle.ps_store.specs.Stores.{StoreStandsFor};
+ghost use Rattle.ps_store.specs.Stores.{StoreStandsFor, HasHistory};
 
 use crate::readings::TakeFault;
 use crate::stores::Store;
@@ -26,7 +26,7 @@ impl Store {
         requires name { blank.name ≡ L.name }
         requires parts { blank.parts ≡ L.parts }
         requires some { 0 < blank.parts }
-        requires stands { (fixed : FixedSeen) × (history : List EventSeen) × StoreStandsFor fixed self.now history }
+        requires stands { HasHistory self.now }
         ensures { (fixed : FixedSeen) (history : List EventSeen) → StoreStandsFor fixed self.now history → Takes fixed history asker.now result }
     {
         let mut steps = Steps::<L>::new(blank);
@@ -53,7 +53,7 @@ impl Store {
 
     /// `Store::take`, with steps that nobody counts.
     pub fn take_uncounted(&self, alloc: Global, asker: &Asker) -> Result<Taken, TakeFault>
-        requires { (fixed : FixedSeen) × (history : List EventSeen) × StoreStandsFor fixed self.now history }
+        requires { HasHistory self.now }
         ensures { (fixed : FixedSeen) (history : List EventSeen) → StoreStandsFor fixed self.now history → Takes fixed history asker.now result }
     {
         self.take_in::<Brand>(alloc, asker, Blank::new(1))

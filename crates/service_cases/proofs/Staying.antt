@@ -12,24 +12,23 @@ use Rattle.ps_store.specs.declared.fixed.Fixed.{Fixed}
 use Rattle.ps_store.specs.declared.stores.Checkpoint.{Checkpoint}
 use Rattle.ps_store.specs.declared.stores.Store.{Store}
 use Rattle.ps_store.specs.declared.stores.Wrote.{Wrote}
-use Rattle.ps_store.specs.Stores.{StoreStandsFor, Feeds, Writes, Commits}
-use Rattle.service_cases.specs.Standing.{IsStore}
+use Rattle.ps_store.specs.Stores.{StoreStandsFor, Feeds, Writes, Commits, HasHistory}
 
 module _ (fixed : Fixed) (history : List Event) (old : Store) (serves : StoreStandsFor fixed old history) where
-  pub stays : (store : Store) (after : List Event) → StoreStandsFor fixed store after → IsStore store
+  pub stays : (store : Store) (after : List Event) → StoreStandsFor fixed store after → HasHistory store
   stays store after stands = (fixed, after, stands)
 
-  pub feeds_stay : (t : Transaction) (store : Store) (result : Result (Unit {0}) FeedFault) → Feeds fixed history t store result → IsStore store
+  pub feeds_stay : (t : Transaction) (store : Store) (result : Result (Unit {0}) FeedFault) → Feeds fixed history t store result → HasHistory store
   feeds_stay t store (Ok done) feeds = stays store (history ++ Feed t ∷ []) feeds
   feeds_stay t store (Err feeding.FeedClosed) feeds = stays store history feeds.1
   feeds_stay t store (Err (feeding.NotRising last given)) feeds = stays store history feeds.4
   feeds_stay t store (Err (feeding.PositionFull head)) feeds = absurd feeds
   feeds_stay t store (Err feeding.Memory) feeds = stays store history feeds.2
 
-  pub writes_stay : (store : Store) (result : Result Wrote WriteFault) → Writes fixed history 1000000 store result → IsStore store
+  pub writes_stay : (store : Store) (result : Result Wrote WriteFault) → Writes fixed history 1000000 store result → HasHistory store
   writes_stay store (Ok wrote) writes = stays store (history ++ Write wrote.changes ∷ []) writes.4
   writes_stay store (Err fault) writes = stays store history writes.1
 
-  pub commits_stay : (store : Store) (result : Result Checkpoint NothingToCommit) → Commits fixed history store result → IsStore store
+  pub commits_stay : (store : Store) (result : Result Checkpoint NothingToCommit) → Commits fixed history store result → HasHistory store
   commits_stay store (Ok checkpoint) commits = stays store (history ++ Commit ∷ []) commits.2
   commits_stay store (Err nothing) commits = stays store history commits.1

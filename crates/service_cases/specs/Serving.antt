@@ -9,10 +9,6 @@ use Rattle.ps_session.specs.Sessions.{SessionState}
 use Rattle.ps_store.specs.Stores.{StoreStandsFor}
 use Rattle.ps_streams.specs.Ties.{HasTaken}
 
--- for some history
-abbrev pub IsServing : Store → Type 0
-IsServing store = (fixed : Fixed) × (history : List Event) × StoreStandsFor fixed store history
-
 -- what the session took last, it took of the store as it stands
 pub record IsOver (store : Store) (asker : Asker) (session : SessionState) : Type 0 where
   pub fixed : Fixed

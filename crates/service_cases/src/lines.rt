@@ -1,8 +1,9 @@
 //! The lines of a stream's first checkpoint, as they are written.
 
 ghost use Rattle.std.specs.Prelude.{OnOk};
+ghost use Rattle.ps_store.specs.Stores.{HasHistory};
 ghost use Rattle.ps_session.specs.Kept.{state_of};
-ghost use Rattle.service_cases.specs.Serving.{IsServing, IsOver};
+ghost use Rattle.service_cases.specs.Serving.{IsOver};
 
 use crate::reading::asker_of;
 use crate::storing::store_over;
@@ -56,7 +57,7 @@ fn push_lines(
 
 // The lines for an asker who holds nothing.
 fn lines_for(alloc: Global, store: &Store, asker: Asker) -> Result<String, Stop>
-    requires { IsServing store.now }
+    requires { HasHistory store.now }
 {
     let mut lines = String::new(alloc);
     let mut session = begin(alloc, asker);

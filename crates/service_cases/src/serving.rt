@@ -1,3 +1,4 @@
+ghost use Rattle.ps_store.specs.Stores.{HasHistory};
 //! Each line is a step of a service that answers one connection after another.
 //!
 //! - `# TEXT` is a heading. `keys JSON` has the keys. `rules TEXT` has the rules, and `store OPS NUMBERS POSITIONS BUCKETS ENTRIES` makes a
@@ -12,8 +13,6 @@
 //! In a text `\r`, `\n` and `\b` stand for CR, LF and a backslash. Only `#`, `ask` and `cuts` print a line.
 //!
 //! The expected answers were written from docs/FORMATS.md, "Requests", "Stream lines" and "Checksums".
-
-ghost use Rattle.service_cases.specs.Standing.{IsStore};
 
 mod asking;
 mod stores;
@@ -104,8 +103,8 @@ fn text_of(alloc: Global, rest: &str) -> Result<String, Stop> {
 
 // Does a call that changes the store; false where the word names none.
 fn is_changed(alloc: Global, store: &mut Store, word: &str, rest: &str) -> Result<bool, Stop>
-    requires { IsStore store.old }
-    ensures { IsStore store.new }
+    requires { HasHistory store.old }
+    ensures { HasHistory store.new }
 {
     match word {
         "feed" => stores::feed(alloc, store, rest)?,
@@ -127,8 +126,8 @@ fn answer(
     line: &str,
     out: &mut String,
 ) -> Result<(), Stop>
-    requires { IsStore store.old }
-    ensures { IsStore store.new }
+    requires { HasHistory store.old }
+    ensures { HasHistory store.new }
 {
     let (word, rest) = cut(line);
     match word {
@@ -152,8 +151,8 @@ fn is_set(alloc: Global, service: &mut Service, word: &str, rest: &str) -> Resul
 
 // Puts a new store in the place of the old one.
 fn renew(alloc: Global, rules: &str, limits: &str, store: &mut Store) -> Result<(), Stop>
-    requires { IsStore store.old }
-    ensures { IsStore store.new }
+    requires { HasHistory store.old }
+    ensures { HasHistory store.new }
 {
     *store = stores::store_of(alloc, rules, limits)?;
     Ok(())
@@ -167,8 +166,8 @@ fn take_line(
     line: &str,
     out: &mut String,
 ) -> Result<(), Stop>
-    requires { IsStore store.old }
-    ensures { IsStore store.new }
+    requires { HasHistory store.old }
+    ensures { HasHistory store.new }
 {
     let (word, rest) = cut(line);
     if word == "store" {
@@ -199,7 +198,7 @@ fn answer_lines(
     store: &mut Store,
     cases: &str,
 ) -> Result<(), Stop>
-    requires { IsStore store.old }
+    requires { HasHistory store.old }
 {
     let alloc = rt.alloc();
     'lines: for line in cases.lines() {

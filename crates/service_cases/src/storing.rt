@@ -1,7 +1,7 @@
 //! Stores over change files, and the logs of their buckets.
 
 ghost use Rattle.std.specs.Prelude.{IfOk};
-ghost use Rattle.service_cases.specs.Serving.{IsServing};
+ghost use Rattle.ps_store.specs.Stores.{HasHistory};
 
 use crate::texts::Texts;
 use case_stores::rules_of;
@@ -15,7 +15,7 @@ use std::alloc::Global;
 
 /// A store that a change file was written into.
 pub fn store_over(alloc: Global, rules: Rules, changes: &str) -> Result<Store, Memory>
-    ensures { IfOk result IsServing }
+    ensures { IfOk result HasHistory }
 {
     if 4294967295 <= changes.len() {
         return Err(Memory);

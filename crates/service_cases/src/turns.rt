@@ -3,8 +3,9 @@
 ghost use Rattle.std.specs.Prelude.{IfOk, IfSome, OnOk};
 ghost use Rattle.ps_lines.specs.Writing.{IsWritable};
 ghost use Rattle.ps_store.specs.declared.stores.Store.{Store as StoreSeen};
+ghost use Rattle.ps_store.specs.Stores.{HasHistory};
 ghost use Rattle.ps_session.specs.Kept.{state_of};
-ghost use Rattle.service_cases.specs.Serving.{IsServing, IsOver};
+ghost use Rattle.service_cases.specs.Serving.{IsOver};
 
 use case_words::Stop;
 use ps_data::Items;
@@ -17,7 +18,7 @@ use std::alloc::Global;
 
 /// The session of an asker who holds nothing.
 pub fn begin(alloc: Global, asker: Asker) -> Session
-    ensures { (store : StoreSeen) → IsServing store → IsOver store result.asker (state_of result) }
+    ensures { (store : StoreSeen) → HasHistory store → IsOver store result.asker (state_of result) }
 {
     calls_make_turns();
     Session::begin(

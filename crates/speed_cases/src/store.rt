@@ -1,11 +1,10 @@
+ghost use Rattle.ps_store.specs.Stores.{HasHistory};
 //! Feeds changes to a store, writes them in batches and commits after each, for `bench/store` to time:
 //! `store WORK CHANGES BATCH` does so with CHANGES changes in batches of BATCH. With `again` they put rows of 97 ids, with
 //! `different` each puts a row of an id of its own, and with `parameter` every second one changes the one row of a parameter
 //! query and the others put rows of 97 ids. `takes` is as `parameter`, and a user takes the checkpoint after each commit,
 //! whose bucket has no operation; with `long-takes` it has all of them. With a fourth word the changes are read and no store has
 //! them. Prints the last id, the checkpoint's position, and how many operations the log has.
-
-ghost use Rattle.case_stores.specs.Histories.{HasHistory};
 
 use crate::shared::{TITLE, asker};
 use crate::stores::{commit, feed, store_of, transaction_of, write};

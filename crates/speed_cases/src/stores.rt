@@ -2,7 +2,7 @@
 
 ghost use Rattle.std.specs.Prelude.{◌≤◌, IfSome};
 ghost use Rattle.ps_store.specs.Limits.{greatest};
-ghost use Rattle.case_stores.specs.Histories.{HasHistory};
+ghost use Rattle.ps_store.specs.Stores.{HasHistory};
 
 use crate::shared::rules_of;
 use ps_changes::read_line;

@@ -1,9 +1,8 @@
+ghost use Rattle.ps_store.specs.Stores.{HasHistory};
 //! Takes the checkpoint of one user again and again, for `bench/take` to time: `take BUCKETS OWN LENGTH TAKES` feeds, writes and
 //! commits BUCKETS notes, each in a room of its own, and changes the note of each room of the user until it has LENGTH operations
 //! in its bucket. Each room has one member. OWN rooms, far apart, are the user's, who then takes TAKES times. Prints the last id, and
 //! how many buckets all takes had together.
-
-ghost use Rattle.case_stores.specs.Histories.{HasHistory};
 
 use crate::shared::asker;
 use crate::stores::{commit, feed, store_of, transaction_of, write};

@@ -9,8 +9,7 @@ use Rattle.ps_store.specs.declared.faults.WriteFault.{WriteFault}
 use Rattle.ps_store.specs.declared.fixed.Fixed.{Fixed}
 use Rattle.ps_store.specs.declared.stores.Store.{Store}
 use Rattle.ps_store.specs.declared.stores.Wrote.{Wrote}
-use Rattle.ps_store.specs.Stores.{Writes, Compacts}
-use Rattle.case_stores.specs.Histories.{HasHistory}
+use Rattle.ps_store.specs.Stores.{Writes, Compacts, HasHistory}
 
 pub writes_last : (fixed : Fixed) (history : List Event) (limit : ℕ) (new : Store) (result : Result Wrote WriteFault) → Writes fixed history limit new result → HasHistory new
 writes_last fixed history limit new (Ok wrote) h = (fixed, history ++ Write wrote.changes ∷ [], h.4)

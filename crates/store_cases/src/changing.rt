@@ -2,7 +2,7 @@
 
 ghost use Rattle.std.specs.Prelude.{◌≤◌, IfOk};
 ghost use Rattle.ps_store.specs.Limits.{greatest};
-ghost use Rattle.case_stores.specs.Histories.{HasHistory};
+ghost use Rattle.ps_store.specs.Stores.{HasHistory};
 
 use crate::reading::transaction_of;
 use case_stores::{limits_of, rules_of};

@@ -1,6 +1,5 @@
+ghost use Rattle.ps_store.specs.Stores.{HasHistory};
 //! The calls for new rules, and what each answers.
-
-ghost use Rattle.case_stores.specs.Histories.{HasHistory};
 
 use case_stores::rules_of;
 use case_words::{Stop, short_number_in};

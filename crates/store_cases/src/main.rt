@@ -1,3 +1,4 @@
+ghost use Rattle.ps_store.specs.Stores.{HasHistory};
 //! Each line is a call of a store, and prints its answer.
 //!
 //! A line that begins with `#` is a heading. `rules` begins a rules file and `changes` a change file, and behind `|` stands the
@@ -12,9 +13,6 @@
 //! `take USER PARAMETERS` takes the checkpoint of a user, `take-as CLIENT USER PARAMETERS` that of a user's client, whose number is printed
 //! where there is one, and `read AFTER UPTO BUCKET` reads a batch.
 #![tactic(auto)]
-
-ghost use Rattle.case_stores.specs.Histories.{HasHistory};
-
 mod changing;
 mod deploying;
 mod reading;

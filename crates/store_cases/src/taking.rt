@@ -1,6 +1,5 @@
+ghost use Rattle.ps_store.specs.Stores.{HasHistory};
 //! What readers of a store are given: checkpoints of askers, and batches of operations.
-
-ghost use Rattle.case_stores.specs.Histories.{HasHistory};
 
 use case_words::{Stop, cut, number_in};
 use ps_bucket_log::{Batch, Op, Taken, TakenBucket};

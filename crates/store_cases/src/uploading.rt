@@ -1,8 +1,8 @@
 //! What clients ask a store for: uploads, and the numbers of write checkpoints.
 
 ghost use Rattle.std.specs.Prelude.{◌<◌, length, All, IfOk};
+ghost use Rattle.ps_store.specs.Stores.{HasHistory};
 ghost use Rattle.ps_rows.specs.declared.changes.Change.{Change as ChangeSeen};
-ghost use Rattle.case_stores.specs.Histories.{HasHistory};
 
 use crate::changing::push_feed_fault;
 use case_words::{Stop, cut};

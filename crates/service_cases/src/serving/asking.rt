@@ -1,6 +1,5 @@
+ghost use Rattle.ps_store.specs.Stores.{HasHistory};
 //! Connections, over sources, sinks and clocks in memory.
-
-ghost use Rattle.service_cases.specs.Standing.{IsStore};
 
 use case_words::{Stop, cut, number_in, push_shown};
 use ps_data::Items;
@@ -30,8 +29,8 @@ fn connect(
     to: &mut MemorySink,
     clock: &MemoryClock,
 ) -> (u16, End)
-    requires { IsStore store.old }
-    ensures { IsStore store.new }
+    requires { HasHistory store.old }
+    ensures { HasHistory store.new }
 {
     answer_alone(alloc, store, site, from, to, clock)
 }
@@ -66,8 +65,8 @@ pub fn ask(
     rest: &str,
     out: &mut String,
 ) -> Result<(), Stop>
-    requires { IsStore store.old }
-    ensures { IsStore store.new }
+    requires { HasHistory store.old }
+    ensures { HasHistory store.new }
 {
     let (moment, rest) = cut(rest);
     let (reads, writes) = cut(rest);
@@ -88,8 +87,8 @@ fn is_cut(
     request: &[u8],
     moment: u64,
 ) -> Result<bool, Stop>
-    requires { IsStore store.old }
-    ensures { IsStore store.new }
+    requires { HasHistory store.old }
+    ensures { HasHistory store.new }
 {
     let clock = MemoryClock::new(moment, 0);
     let mut from = source(alloc, request, "-")?;
@@ -107,8 +106,8 @@ pub fn ask_cuts(
     rest: &str,
     out: &mut String,
 ) -> Result<(), Stop>
-    requires { IsStore store.old }
-    ensures { IsStore store.new }
+    requires { HasHistory store.old }
+    ensures { HasHistory store.new }
 {
     let moment = number_in(rest)?;
     let mut cuts = 0u64;

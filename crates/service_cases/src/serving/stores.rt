@@ -2,7 +2,7 @@
 
 ghost use Rattle.std.specs.Prelude.{◌≤◌, IfOk};
 ghost use Rattle.ps_store.specs.Limits.{greatest};
-ghost use Rattle.service_cases.specs.Standing.{IsStore};
+ghost use Rattle.ps_store.specs.Stores.{HasHistory};
 
 use case_stores::{limits_of, rules_of, transaction_of};
 use case_words::Stop;
@@ -12,7 +12,7 @@ use std::alloc::Global;
 
 /// A store for the rules of a text, under limits.
 pub fn store_of(alloc: Global, rules: &str, limits: &str) -> Result<Store, Stop>
-    ensures { IfOk result IsStore }
+    ensures { IfOk result HasHistory }
 {
     let limits = limits_of(limits)?;
     let rules = rules_of(alloc, rules)?;
@@ -22,23 +22,23 @@ pub fn store_of(alloc: Global, rules: &str, limits: &str) -> Result<Store, Stop>
 
 fn feed_next(alloc: Global, store: &mut Store, transaction: Transaction) -> Result<(), FeedFault>
     requires position { transaction.position.0 ≤ greatest }
-    requires stands { IsStore store.old }
-    ensures { IsStore store.new }
+    requires stands { HasHistory store.old }
+    ensures { HasHistory store.new }
 {
     store.feed(alloc, transaction)
 }
 
 fn write_next(alloc: Global, store: &mut Store) -> Result<Wrote, WriteFault>
-    requires { IsStore store.old }
-    ensures { IsStore store.new }
+    requires { HasHistory store.old }
+    ensures { HasHistory store.new }
 {
     store.write_batch(alloc, 1000000)
 }
 
 /// Feeds the transaction of a change line.
 pub fn feed(alloc: Global, store: &mut Store, line: &str) -> Result<(), Stop>
-    requires { IsStore store.old }
-    ensures { IsStore store.new }
+    requires { HasHistory store.old }
+    ensures { HasHistory store.new }
 {
     let transaction = transaction_of(alloc, line)?;
     Ok(feed_next(alloc, store, transaction)?)
@@ -61,8 +61,8 @@ fn rows_line(alloc: Global, count: u64) -> Result<String, Stop> {
 
 /// Feeds so many rows of `t`.
 pub fn feed_rows(alloc: Global, store: &mut Store, count: u64) -> Result<(), Stop>
-    requires { IsStore store.old }
-    ensures { IsStore store.new }
+    requires { HasHistory store.old }
+    ensures { HasHistory store.new }
 {
     let line = rows_line(alloc, count)?;
     feed(alloc, store, line.as_str())
@@ -70,24 +70,24 @@ pub fn feed_rows(alloc: Global, store: &mut Store, count: u64) -> Result<(), Sto
 
 /// Writes a batch of what is fed.
 pub fn write(alloc: Global, store: &mut Store) -> Result<(), Stop>
-    requires { IsStore store.old }
-    ensures { IsStore store.new }
+    requires { HasHistory store.old }
+    ensures { HasHistory store.new }
 {
     let _wrote = write_next(alloc, store)?;
     Ok(())
 }
 
 fn commit_next(store: &mut Store) -> Result<Checkpoint, NothingToCommit>
-    requires { IsStore store.old }
-    ensures { IsStore store.new }
+    requires { HasHistory store.old }
+    ensures { HasHistory store.new }
 {
     store.commit()
 }
 
 /// Makes what is reached the checkpoint.
 pub fn commit(store: &mut Store) -> Result<(), Stop>
-    requires { IsStore store.old }
-    ensures { IsStore store.new }
+    requires { HasHistory store.old }
+    ensures { HasHistory store.new }
 {
     let _checkpoint = commit_next(store)?;
     Ok(())
@@ -95,8 +95,8 @@ pub fn commit(store: &mut Store) -> Result<(), Stop>
 
 /// Closes the feed.
 pub fn close(store: &mut Store)
-    requires { IsStore store.old }
-    ensures { IsStore store.new }
+    requires { HasHistory store.old }
+    ensures { HasHistory store.new }
 {
     store.close_feed();
 }

@@ -1,4 +1,4 @@
-use Rattle.case_stores.specs.Histories.{HasHistory}
+use Rattle.ps_store.specs.Stores.{HasHistory}
 use Rattle.speed_cases.proofs.store.do_all.Given as goal
 
 -- the store stays one
