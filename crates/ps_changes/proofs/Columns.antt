@@ -15,7 +15,7 @@ use Rattle.ps_rows.specs.Rows.{is_id, rises_from, is_row}
 use Rattle.ps_changes.specs.Types.{ChangeFault}
 use Rattle.ps_changes.specs.Members.{◌>>=◌}
 use Rattle.ps_changes.specs.Lines.{value_in, column_of, columns_of}
-use Rattle.ps_changes.specs.Borrowed.{seen, entries_seen}
+use Rattle.ps_borrowed.specs.Borrowed.{seen, entries_seen}
 
 -- a name and a value, which are borrowed
 abbrev pub Entry : Type 0

@@ -1,6 +1,5 @@
 pub mod Types
 pub mod Members
-pub mod Borrowed
 pub mod Shapes
 pub mod Lines
 pub mod Grammar

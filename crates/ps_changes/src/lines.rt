@@ -1,7 +1,7 @@
 ghost use Rattle.std.specs.Prelude.{List, IfOk, Ok};
 ghost use Rattle.ps_changes.specs.Types.{Transaction as TransactionData, Change as ChangeData};
 ghost use Rattle.ps_changes.specs.Members.{Reads, seen_by};
-ghost use Rattle.ps_changes.specs.Borrowed.{seen};
+ghost use Rattle.ps_borrowed.specs.Borrowed.{seen};
 ghost use Rattle.ps_changes.specs.Lines.{RefusesLong, RefusesNoText, json_within, line_of, body_of, lone_change_of};
 ghost use Rattle.ps_changes.specs.Grammar.{IsLine, IsBody, IsLoneChange};
 

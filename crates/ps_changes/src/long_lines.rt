@@ -3,7 +3,7 @@
 ghost use Rattle.std.specs.Prelude.{IfOk, Ok};
 ghost use Rattle.ps_changes.specs.Types.{Transaction as TransactionData, Change as ChangeData};
 ghost use Rattle.ps_changes.specs.Members.{Reads};
-ghost use Rattle.ps_changes.specs.Borrowed.{seen};
+ghost use Rattle.ps_borrowed.specs.Borrowed.{seen};
 ghost use Rattle.ps_changes.specs.LongLines.{transaction_in as transaction_in_json, change_in as change_in_json, long_line_of, long_change_of, IsLongLine, IsLongChange};
 ghost use Rattle.ps_changes.specs.Writing.{IsWritable};
 

@@ -3,7 +3,7 @@
 ghost use Rattle.json.specs.Value.{items_view, members_view};
 ghost use Rattle.serde_json.specs.Data.{number, no_members};
 ghost use Rattle.ps_changes.specs.Members.{Reads, Adds};
-ghost use Rattle.ps_changes.specs.Borrowed.{number_in as number_data, seen, items_in, members_in, entries_seen};
+ghost use Rattle.ps_borrowed.specs.Borrowed.{number_in as number_data, seen, items_in, members_in, entries_seen};
 ghost use Rattle.ps_changes.specs.Lines.{text_at, value_in, column_of, columns_of, row_in, row_of, row_by_op, change_of, changes_of, changes_in, position_of, transaction_of};
 
 use crate::ChangeFault;

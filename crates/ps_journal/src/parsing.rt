@@ -2,7 +2,7 @@
 ghost use Rattle.std.specs.Prelude.{◌≡◌, ◌≤◌, IfOk, IfSome, option_map};
 ghost use Rattle.ps_data.specs.Documents.{json_of};
 ghost use Rattle.ps_data.specs.Numbers.{greatest};
-ghost use Rattle.ps_changes.specs.Borrowed.{seen};
+ghost use Rattle.ps_borrowed.specs.Borrowed.{seen};
 ghost use Rattle.ps_journal.specs.Records.{text_in, decimal_in, number_in as number_of, upload_in as upload_of, record_in as record_in_json, record_of as record_of_body, IsRecord};
 
 use crate::Record;

@@ -1,7 +1,7 @@
 use Rattle.std.proofs.Common.{◌++◌, ap, ◌∙◌, Ok}
 use Rattle.std.proofs.lemmas.List.{append-nil}
 use Rattle.ps_changes.specs.Members.{◌>>=◌}
-use Rattle.ps_changes.specs.Borrowed.{seen, entries_seen}
+use Rattle.ps_borrowed.specs.Borrowed.{seen, entries_seen}
 use Rattle.ps_rows.specs.Rows.{is_row}
 use Rattle.ps_changes.specs.Lines.{columns_of}
 use Rattle.ps_changes.proofs.Columns.{member_more, in_order}

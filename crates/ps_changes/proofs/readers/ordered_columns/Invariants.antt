@@ -1,6 +1,6 @@
 use Rattle.std.proofs.Common.{◌≡◌, ◌++◌, Ok}
 use Rattle.ps_changes.specs.Members.{◌>>=◌}
-use Rattle.ps_changes.specs.Borrowed.{entries_seen}
+use Rattle.ps_borrowed.specs.Borrowed.{entries_seen}
 use Rattle.ps_changes.specs.Lines.{columns_of}
 use Rattle.ps_changes.proofs.readers.ordered_columns.Given as goal
 

@@ -3,7 +3,7 @@ use Rattle.std.proofs.lemmas.List.{append-nil}
 use Rattle.serde_json.specs.Data.{Data}
 use Rattle.ps_data.specs.declared.columns.Column.{Column}
 use Rattle.ps_data.specs.declared.values.Value.{Value}
-use Rattle.ps_changes.specs.Borrowed.{seen}
+use Rattle.ps_borrowed.specs.Borrowed.{seen}
 use Rattle.ps_rows.specs.Rows.{is_id}
 use Rattle.ps_changes.specs.Lines.{value_in, column_of}
 use Rattle.ps_changes.proofs.readers.push_column.Goals as goal

@@ -8,7 +8,7 @@ use Rattle.json.specs.declared.value.Value.{Value as Borrowed}
 use Rattle.serde_json.specs.Data.{Data, Items, item}
 use Rattle.ps_changes.specs.Types.{Change, ChangeFault, LineTooLong, BadJson, BadShape, BadPosition, BadValue, Memory}
 use Rattle.ps_changes.specs.Members.{◌>>=◌, Reads}
-use Rattle.ps_changes.specs.Borrowed.{seen, items_in}
+use Rattle.ps_borrowed.specs.Borrowed.{seen, items_in}
 use Rattle.ps_changes.specs.Lines.{change_of, changes_of}
 use Rattle.ps_changes.proofs.Columns.{fronts}
 use Rattle.ps_changes.proofs.readers.read_items.Goals as goal

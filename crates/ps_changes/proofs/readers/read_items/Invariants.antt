@@ -1,7 +1,7 @@
 use Rattle.std.proofs.Common.{◌≡◌, ◌++◌, Ok, drop}
 use Rattle.json.specs.Value.{items_view}
 use Rattle.ps_changes.specs.Members.{◌>>=◌}
-use Rattle.ps_changes.specs.Borrowed.{items_in}
+use Rattle.ps_borrowed.specs.Borrowed.{items_in}
 use Rattle.ps_changes.specs.Lines.{changes_of}
 use Rattle.ps_changes.proofs.readers.read_items.Given as goal
 

@@ -3,9 +3,9 @@ use Rattle.std.specs.declared.alloc.Global.{Global}
 use Rattle.std.proofs.lemmas.List.{at_drop_all}
 use Rattle.json.specs.Value.{items_view}
 use Rattle.json.specs.declared.value.Value.{Value as Borrowed}
-use Rattle.ps_changes.specs.Borrowed.{seen, items_in}
+use Rattle.ps_borrowed.specs.Borrowed.{seen, items_in}
 use Rattle.ps_changes.specs.Shapes.{is_change, are_changes}
-use Rattle.ps_changes.proofs.Loops.{each_next}
+use Rattle.ps_borrowed.proofs.Loops.{each_next}
 use Rattle.ps_changes.proofs.shapes.are_changes.Goals as goal
 
 abbrev All : List (Borrowed Global) → Bool

@@ -1,6 +1,6 @@
 use Rattle.std.proofs.Common.{◌≡◌, drop}
 use Rattle.json.specs.Value.{items_view}
-use Rattle.ps_changes.specs.Borrowed.{items_in}
+use Rattle.ps_borrowed.specs.Borrowed.{items_in}
 use Rattle.ps_changes.specs.Shapes.{are_changes}
 use Rattle.ps_changes.proofs.shapes.are_changes.Given as goal
 

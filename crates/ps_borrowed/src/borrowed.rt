@@ -1,18 +1,15 @@
-//! JSON whose texts are borrowed from the line that it is read from.
+//! JSON whose texts are borrowed from the bytes that it is read from: reading it, its members, its numbers, and the same JSON with texts of its own.
 
-ghost use Rattle.std.specs.Prelude.{◌≡◌, ◌==◌, ◌<◌, length, slice_index, IfOk, IsTrue, option_map, true, false, Err};
+ghost use Rattle.std.specs.Prelude.{◌≡◌, ◌==◌, ◌<◌, length, slice_index, IfOk, IsTrue, option_map, true, false, None, Ok};
 ghost use Rattle.std.specs.Str.{IsUtf8};
 ghost use Rattle.json.specs.Value.{value_view, items_view, members_view};
 ghost use Rattle.serde_json.specs.Data.{no_members};
-ghost use Rattle.serde_json.specs.Find.{get, as_str, as_array, as_object};
+ghost use Rattle.serde_json.specs.Find.{get};
 ghost use Rattle.serde_json.specs.Read.{number_of, number_from, float_of};
 ghost use Rattle.serde_json.specs.View.{view, number_view, items_view as tree_items_view, members_view as tree_members_view};
 ghost use Rattle.ps_data.specs.Documents.{json_of};
-ghost use Rattle.ps_changes.specs.Types.{BadJson};
-ghost use Rattle.ps_changes.specs.Members.{Reads, or_fault, seen_by};
-ghost use Rattle.ps_changes.specs.Borrowed.{number_in as number_data, fits as fits_data, items_fit as items_fit_data, members_fit as members_fit_data, items_in, members_in, seen, entries_seen};
+ghost use Rattle.ps_borrowed.specs.Borrowed.{number_in as number_data, fits as fits_data, items_fit as items_fit_data, members_fit as members_fit_data, items_in, members_in, seen, entries_seen};
 
-use crate::ChangeFault;
 use fast_float::Numeral;
 use json::{Error, Reader, Scratch, Value as Borrowed};
 use ps_data::Memory;
@@ -23,32 +20,33 @@ use std::collections::BTreeMap;
 // How deep arrays and objects may nest.
 const DEEPEST: usize = 127;
 
-/// The JSON value that bytes hold. Its texts are those of the bytes, or stand in the room where they are escaped.
-/// Fails with `BadJson` exactly where the bytes hold no JSON value (RFC 8259).
+/// The JSON value (RFC 8259) that bytes hold, None where they hold none. Its texts are those of the bytes, or stand in
+/// the room where they are escaped. Of members with one name the last is meant.
 pub fn read_borrowed<'a>(
     alloc: Global,
     bytes: &'a [u8],
     room: &'a mut Scratch,
-) -> Result<Borrowed<'a>, ChangeFault>
-    ensures exact { Reads (seen_by seen result) (or_fault BadJson (json_of bytes.now)) }
-    ensures no_text { ¬ (IsUtf8 bytes.now) → result ≡ Err BadJson }
+) -> Result<Option<Borrowed<'a>>, Memory>
+    ensures value { IfOk result (λ read. option_map seen read ≡ json_of bytes.now) }
+    // Bytes that are no text hold none, whatever memory there is.
+    ensures no_text { ¬ (IsUtf8 bytes.now) → result ≡ Ok None }
 {
     let Ok(text) = str::from_utf8(bytes) else {
-        return Err(ChangeFault::BadJson);
+        return Ok(None);
     };
     let mut reader = Reader::new(text, room)?;
     match Borrowed::read(alloc, &mut reader, DEEPEST) {
         Ok(json) => {
             if reader.next().is_some() {
-                return Err(ChangeFault::BadJson);
+                return Ok(None);
             }
             if !fits(&json) {
-                return Err(ChangeFault::BadJson);
+                return Ok(None);
             }
-            Ok(json)
+            Ok(Some(json))
         }
-        Err(Error::OutOfMemory) => Err(ChangeFault::Memory),
-        Err(Error::Invalid | Error::TooLong | Error::DuplicateKey) => Err(ChangeFault::BadJson),
+        Err(Error::OutOfMemory) => Err(Memory),
+        Err(Error::Invalid | Error::TooLong | Error::DuplicateKey) => Ok(None),
     }
 }
 
@@ -134,7 +132,7 @@ fn nearest(negative: bool, numeral: &Numeral<'_>) -> Option<Number>
     Number::from_f64(numeral.to_float::<f64>(negative))
 }
 
-// The number that a text is; 0 where neither a float nor 64 bits hold it.
+/// The number that a text of JSON writes; 0 where neither a float nor 64 bits hold it.
 pub fn number_in(text: &str) -> Number
     ensures { number_view result ≡ number_data text.now }
 {
@@ -152,38 +150,8 @@ pub fn member<'v, 'a>(json: &'v Borrowed<'a>, name: &str) -> Option<&'v Borrowed
     json.get(name)
 }
 
-/// The text that a JSON value is; None where it is no string.
-pub fn as_text<'a>(json: &Borrowed<'a>) -> Option<&'a str>
-    ensures { option_map (λ text. text.now) result ≡ as_str (seen json.now) }
-{
-    if let Borrowed::String(text) = json {
-        Some(*text)
-    } else {
-        None
-    }
-}
-
-pub fn as_list<'v, 'a>(json: &'v Borrowed<'a>) -> Option<&'v Vec<Borrowed<'a>>>
-    ensures { option_map (λ list. items_in (items_view list.now.items)) result ≡ as_array (seen json.now) }
-{
-    if let Borrowed::Array(list) = json {
-        Some(list)
-    } else {
-        None
-    }
-}
-
-pub fn as_members<'v, 'a>(json: &'v Borrowed<'a>) -> Option<&'v Vec<(&'a str, Borrowed<'a>)>>
-    ensures { option_map (λ members. members_in (members_view members.now.items) no_members) result ≡ as_object (seen json.now) }
-{
-    if let Borrowed::Object(members) = json {
-        Some(members)
-    } else {
-        None
-    }
-}
-
-// The members of an object in the order of their names, of one name the last.
+/// The members of an object in the order of their names, of one name the last.
+/// Fails with `Memory` alone.
 pub fn in_order<'v, 'a>(
     alloc: Global,
     members: &'v Vec<(&'a str, Borrowed<'a>)>,
@@ -197,7 +165,8 @@ pub fn in_order<'v, 'a>(
     Ok(ordered)
 }
 
-// The same JSON, which owns its texts.
+/// The same JSON, which owns its texts.
+/// Fails with `Memory` alone.
 #[cycle(owned)]
 pub fn owned(alloc: Global, json: &Borrowed<'_>) -> Result<Json, Memory>
     ensures { IfOk result (λ made. view made ≡ seen json.now) }

@@ -3,9 +3,9 @@ use Rattle.std.specs.declared.alloc.Global.{Global}
 use Rattle.std.proofs.lemmas.List.{at_drop_all}
 use Rattle.json.specs.Value.{value_view, items_view, members_view}
 use Rattle.json.specs.declared.value.Value.{Value as Borrowed}
-use Rattle.ps_changes.specs.Borrowed.{fits, items_fit, members_fit}
-use Rattle.ps_changes.proofs.Loops.{each_next}
-use Rattle.ps_changes.proofs.borrowed.+fits.Goals as goal
+use Rattle.ps_borrowed.specs.Borrowed.{fits, items_fit, members_fit}
+use Rattle.ps_borrowed.proofs.Loops.{each_next}
+use Rattle.ps_borrowed.proofs.borrowed.+fits.Goals as goal
 
 abbrev ItemsFit : List (Borrowed Global) → Bool
 ItemsFit items = items_fit (items_view items)

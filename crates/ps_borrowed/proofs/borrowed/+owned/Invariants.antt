@@ -2,8 +2,8 @@ use Rattle.std.proofs.Common.{◌≡◌, drop, take, map}
 use Rattle.json.specs.Value.{members_view}
 use Rattle.serde_json.specs.Data.{no_members}
 use Rattle.serde_json.specs.View.{view, members_view as owned_view}
-use Rattle.ps_changes.specs.Borrowed.{seen, members_in}
-use Rattle.ps_changes.proofs.borrowed.+owned.Given as goal
+use Rattle.ps_borrowed.specs.Borrowed.{seen, members_in}
+use Rattle.ps_borrowed.proofs.borrowed.+owned.Given as goal
 
 abbrev pub invariant-owned_items-items : goal.invariant-owned_items-items
 invariant-owned_items-items l = map view l.made.items ≡ map seen (take l.item-index l.item-items)

@@ -3,10 +3,10 @@ use Rattle.std.proofs.lemmas.List.{drop_more, take_all}
 use Rattle.json.specs.Value.{members_view}
 use Rattle.serde_json.specs.Data.{put}
 use Rattle.serde_json.specs.View.{items_of, members_view as owned_view}
-use Rattle.ps_changes.specs.Borrowed.{members_in, seen}
-use Rattle.ps_changes.proofs.Borrowing.{each_seen}
-use Rattle.ps_changes.proofs.Owning.{null_owned, bool_owned, number_owned, text_owned, array_owned, object_owned, item_owned}
-use Rattle.ps_changes.proofs.borrowed.+owned.Goals as goal
+use Rattle.ps_borrowed.specs.Borrowed.{members_in, seen}
+use Rattle.ps_borrowed.proofs.Borrowing.{each_seen}
+use Rattle.ps_borrowed.proofs.Owning.{null_owned, bool_owned, number_owned, text_owned, array_owned, object_owned, item_owned}
+use Rattle.ps_borrowed.proofs.borrowed.+owned.Goals as goal
 
 pub owned_items-returns : goal.owned_items-returns
 owned_items-returns t c =

@@ -1,9 +1,9 @@
 use Rattle.std.proofs.Common.{◌≡◌, ◌+◌, ◌∷◌, drop, sym, ap, ◌∙◌, arith}
 use Rattle.std.proofs.lemmas.List.{drop_more}
 use Rattle.json.specs.Value.{members_view}
-use Rattle.ps_changes.specs.Borrowed.{members_in, entries_seen}
-use Rattle.ps_changes.proofs.Borrowing.{entries_more}
-use Rattle.ps_changes.proofs.borrowed.in_order.Goals as goal
+use Rattle.ps_borrowed.specs.Borrowed.{members_in, entries_seen}
+use Rattle.ps_borrowed.proofs.Borrowing.{entries_more}
+use Rattle.ps_borrowed.proofs.borrowed.in_order.Goals as goal
 
 pub members-preserved : goal.members-preserved
 members-preserved c =

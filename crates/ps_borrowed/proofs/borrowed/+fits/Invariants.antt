@@ -1,7 +1,7 @@
 use Rattle.std.proofs.Common.{◌≡◌, drop}
 use Rattle.json.specs.Value.{items_view, members_view}
-use Rattle.ps_changes.specs.Borrowed.{items_fit, members_fit}
-use Rattle.ps_changes.proofs.borrowed.+fits.Given as goal
+use Rattle.ps_borrowed.specs.Borrowed.{items_fit, members_fit}
+use Rattle.ps_borrowed.proofs.borrowed.+fits.Given as goal
 
 -- all fit where those that are left do
 abbrev pub invariant-items_fit-items : goal.invariant-items_fit-items

@@ -23,7 +23,7 @@ use Rattle.serde_json.specs.Read.{number_of, of_json, of_items, of_members, max_
 use Rattle.serde_json.specs.View.{items_of}
 use Rattle.serde_json.proofs.Views.{get_member-put, get_member-put_other}
 use Rattle.ps_data.specs.Documents.{json_of}
-use Rattle.ps_changes.specs.Borrowed.{fits, items_fit, members_fit, data_in, items_in, members_in, seen, entries_seen}
+use Rattle.ps_borrowed.specs.Borrowed.{fits, items_fit, members_fit, data_in, items_in, members_in, seen, entries_seen}
 
 -- ---- the data of a text
 

@@ -14,7 +14,7 @@ use Rattle.serde_json.specs.declared.number.Number.{Number}
 use Rattle.serde_json.specs.declared.value.Value.{Value}
 use Rattle.serde_json.specs.declared.value.Value as owned
 use Rattle.serde_json.proofs.Views.{view-Array, view-Object}
-use Rattle.ps_changes.specs.Borrowed.{number_in, data_in, items_in, members_in, seen}
+use Rattle.ps_borrowed.specs.Borrowed.{number_in, data_in, items_in, members_in, seen}
 
 -- from what is seen of both
 by_views : (d : Value) (b : Borrowed Global) (j : json.Json) → value_view b ≡ j → view d ≡ data_in j → view d ≡ seen b

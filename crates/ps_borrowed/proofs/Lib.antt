@@ -1,0 +1,3 @@
+pub mod Borrowing
+pub mod Loops
+pub mod Owning
