@@ -1,7 +1,6 @@
 //! The lines that the source's transactions are read from, and written as.
 #![tactic(auto)]
 
-mod borrowed;
 mod faults;
 mod laws;
 mod lines;
@@ -10,7 +9,6 @@ mod readers;
 mod shapes;
 mod writers;
 
-pub use borrowed::{as_text, member, read_borrowed};
 pub use faults::ChangeFault;
 pub use laws::{lines_are_spelled, lone_changes_are_spelled};
 pub use lines::{LineReader, read_change, read_changes, read_line};

@@ -1,15 +1,17 @@
-ghost use Rattle.std.specs.Prelude.{List, IfOk, Ok};
-ghost use Rattle.ps_changes.specs.Types.{Transaction as TransactionData, Change as ChangeData};
-ghost use Rattle.ps_changes.specs.Members.{Reads, seen_by};
+ghost use Rattle.std.specs.Prelude.{◌≡◌, List, IfOk, Ok, Err};
+ghost use Rattle.std.specs.Str.{IsUtf8};
+ghost use Rattle.ps_data.specs.Documents.{json_of};
+ghost use Rattle.ps_changes.specs.Types.{Transaction as TransactionData, Change as ChangeData, BadJson};
+ghost use Rattle.ps_changes.specs.Members.{Reads, or_fault, seen_by};
 ghost use Rattle.ps_borrowed.specs.Borrowed.{seen};
 ghost use Rattle.ps_changes.specs.Lines.{RefusesLong, RefusesNoText, json_within, line_of, body_of, lone_change_of};
 ghost use Rattle.ps_changes.specs.Grammar.{IsLine, IsBody, IsLoneChange};
 
 use crate::ChangeFault;
-use crate::borrowed::read_borrowed;
 use crate::readers::{read_list, read_object, read_transaction};
 use crate::shapes::{has_changes, is_change, is_transaction};
 use json::{Scratch, Value as Borrowed};
+use ps_borrowed::read_borrowed;
 use ps_data::Items;
 use ps_rows::{Change, Transaction};
 use ps_values::decimals_read_back;
@@ -120,7 +122,22 @@ fn json_of_line<'a>(
         let length = bytes.len() as u64;
         return Err(ChangeFault::LineTooLong { length });
     }
-    read_borrowed(alloc, bytes, room)
+    json_in(alloc, bytes, room)
+}
+
+// The JSON of bytes of any length.
+pub fn json_in<'a>(
+    alloc: Global,
+    bytes: &'a [u8],
+    room: &'a mut Scratch,
+) -> Result<Borrowed<'a>, ChangeFault>
+    ensures exact { Reads (seen_by seen result) (or_fault BadJson (json_of bytes.now)) }
+    ensures no_text { ¬ (IsUtf8 bytes.now) → result ≡ Err BadJson }
+{
+    match read_borrowed(alloc, bytes, room)? {
+        Some(json) => Ok(json),
+        None => Err(ChangeFault::BadJson),
+    }
 }
 
 #[tactic(auto, unfolding(crate::specs::Lines::line_of))]

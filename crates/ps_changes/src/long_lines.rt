@@ -8,7 +8,7 @@ ghost use Rattle.ps_changes.specs.LongLines.{transaction_in as transaction_in_js
 ghost use Rattle.ps_changes.specs.Writing.{IsWritable};
 
 use crate::ChangeFault;
-use crate::borrowed::read_borrowed;
+use crate::lines::json_in;
 use crate::readers::{read_object, read_transaction};
 use crate::shapes::{is_change, is_transaction};
 use json::{Scratch, Value as Borrowed};
@@ -83,7 +83,7 @@ fn line(alloc: Global, bytes: &[u8]) -> Result<Transaction, ChangeFault>
     ensures { Reads result (long_line_of bytes.now) }
 {
     let mut room = Scratch::new(alloc);
-    let json = read_borrowed(alloc, bytes, &mut room)?;
+    let json = json_in(alloc, bytes, &mut room)?;
     transaction(alloc, &json)
 }
 
@@ -92,6 +92,6 @@ fn lone_change(alloc: Global, bytes: &[u8]) -> Result<Change, ChangeFault>
     ensures { Reads result (long_change_of bytes.now) }
 {
     let mut room = Scratch::new(alloc);
-    let json = read_borrowed(alloc, bytes, &mut room)?;
+    let json = json_in(alloc, bytes, &mut room)?;
     change_in(alloc, &json)
 }

@@ -7,8 +7,8 @@ ghost use Rattle.ps_borrowed.specs.Borrowed.{number_in as number_data, seen, ite
 ghost use Rattle.ps_changes.specs.Lines.{text_at, value_in, column_of, columns_of, row_in, row_of, row_by_op, change_of, changes_of, changes_in, position_of, transaction_of};
 
 use crate::ChangeFault;
-use crate::borrowed::{as_list, as_members, as_text, in_order, member, number_in, owned};
 use json::Value as Borrowed;
+use ps_borrowed::{as_list, as_members, as_text, in_order, member, number_in, owned};
 use ps_data::{Column, Items, Position, Text, Value};
 use ps_rows::{Change, Row, Transaction};
 use ps_values::{ValueFault, read_decimal, value_of_json};

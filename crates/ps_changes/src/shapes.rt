@@ -5,8 +5,8 @@ ghost use Rattle.json.specs.Value.{items_view};
 ghost use Rattle.ps_borrowed.specs.Borrowed.{seen, items_in};
 ghost use Rattle.ps_changes.specs.Shapes.{has_text as text_is_there, has_object as object_is_there, has_filled_text as filled_text_is_there, is_op as is_op_shape, is_change as is_change_shape, are_changes as are_changes_shape, has_changes as changes_are_there, is_transaction as is_transaction_shape};
 
-use crate::borrowed::{as_list, as_members, as_text, member};
 use json::Value as Borrowed;
+use ps_borrowed::{as_list, as_members, as_text, member};
 
 fn has_text(json: &Borrowed<'_>, name: &str) -> bool
     ensures { result ≡ text_is_there name.now (seen json.now) }

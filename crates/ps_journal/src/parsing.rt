@@ -1,13 +1,13 @@
 //! The record that a body stands for.
 ghost use Rattle.std.specs.Prelude.{◌≡◌, ◌≤◌, IfOk, IfSome, option_map};
-ghost use Rattle.ps_data.specs.Documents.{json_of};
 ghost use Rattle.ps_data.specs.Numbers.{greatest};
 ghost use Rattle.ps_borrowed.specs.Borrowed.{seen};
 ghost use Rattle.ps_journal.specs.Records.{text_in, decimal_in, number_in as number_of, upload_in as upload_of, record_in as record_in_json, record_of as record_of_body, IsRecord};
 
 use crate::Record;
 use json::{Scratch, Value as Borrowed};
-use ps_changes::{ChangeFault, Transaction, as_text, member, read_borrowed, transaction_in};
+use ps_borrowed::{as_text, member, read_borrowed};
+use ps_changes::{ChangeFault, Transaction, transaction_in};
 use ps_data::{Memory, Position, Text};
 use ps_values::read_decimal;
 use std::alloc::Global;
@@ -18,30 +18,9 @@ pub(crate) fn record_of(alloc: Global, body: &[u8]) -> Result<Option<Record>, Me
     ensures valid { IfOk result (λ found. IfSome found IsRecord) }
 {
     let mut room = Scratch::new(alloc);
-    match json_in(alloc, body, &mut room)? {
+    match read_borrowed(alloc, body, &mut room)? {
         Some(json) => record_in(alloc, &json),
         None => Ok(None),
-    }
-}
-
-// The JSON that bytes hold, if any.
-fn json_in<'a>(
-    alloc: Global,
-    bytes: &'a [u8],
-    room: &'a mut Scratch,
-) -> Result<Option<Borrowed<'a>>, Memory>
-    ensures { IfOk result (λ found. option_map seen found ≡ json_of bytes.now) }
-{
-    match read_borrowed(alloc, bytes, room) {
-        Ok(json) => Ok(Some(json)),
-        Err(ChangeFault::Memory) => Err(Memory),
-        Err(
-            ChangeFault::BadJson
-            | ChangeFault::LineTooLong { length: _ }
-            | ChangeFault::BadShape
-            | ChangeFault::BadPosition
-            | ChangeFault::BadValue,
-        ) => Ok(None),
     }
 }
 
