@@ -2,7 +2,8 @@ ghost use Rattle.std.specs.Prelude.{◌≡◌, ◌<◌, ◌≤◌, All, IfOk, Ok
 ghost use Rattle.std.specs.Str.{IsUtf8};
 ghost use Rattle.ps_lines.specs.declared.faults.LineFault.TheVariants.{BadJson};
 ghost use Rattle.std.specs.List.{IsDistinct};
-ghost use Rattle.serde_json.specs.View.{view, items_view};
+ghost use Rattle.json.specs.Value.{items_view};
+ghost use Rattle.ps_borrowed.specs.Borrowed.{items_in, seen};
 ghost use Rattle.serde_json.specs.Data.{depth};
 ghost use Rattle.serde_json.specs.Find.{as_object};
 ghost use Rattle.serde_json.specs.Read.{max_depth};
@@ -17,9 +18,10 @@ ghost use Rattle.ps_lines.specs.Bodies.{last_ones, known_of, entries_known, posi
 use crate::body_shapes::is_body;
 use crate::members::{read_id, read_text};
 use crate::{Known, LineFault, StreamBody};
+use json::{Scratch, Value as Borrowed};
+use ps_borrowed::{as_list, as_text, is_object, member, owned, read_borrowed};
 use ps_data::{Items, Memory, Text};
-use ps_values::{decimals_read_back, plain, read_json};
-use serde_json::Value as Json;
+use ps_values::{decimals_read_back, plain};
 use std::alloc::Global;
 use std::collections::BTreeSet;
 
@@ -45,7 +47,8 @@ fn read_whole_body(alloc: Global, bytes: &[u8]) -> Result<StreamBody, LineFault>
     ensures no_text { ¬ (IsUtf8 bytes.now) → result ≡ Err BadJson }
     ensures is_one { IfOk result IsBody }
 {
-    let Some(json) = read_json(alloc, bytes)? else {
+    let mut room = Scratch::new(alloc);
+    let Some(json) = read_borrowed(alloc, bytes, &mut room)? else {
         return Err(LineFault::BadJson);
     };
     if !is_body(&json) {
@@ -55,9 +58,9 @@ fn read_whole_body(alloc: Global, bytes: &[u8]) -> Result<StreamBody, LineFault>
     Ok(body)
 }
 
-fn read_shaped(alloc: Global, json: &Json) -> Result<StreamBody, LineFault>
-    ensures exact { Reads result (shaped_body (view json.now)) }
-    ensures is_one { IfOk result (λ body. depth (view json.now) ≤ max_depth → IsBody body) }
+fn read_shaped(alloc: Global, json: &Borrowed<'_>) -> Result<StreamBody, LineFault>
+    ensures exact { Reads result (shaped_body (seen json.now)) }
+    ensures is_one { IfOk result (λ body. depth (seen json.now) ≤ max_depth → IsBody body) }
 {
     let positions = read_positions(alloc, json)?;
     let client = read_client(alloc, json)?;
@@ -69,12 +72,12 @@ fn read_shaped(alloc: Global, json: &Json) -> Result<StreamBody, LineFault>
     })
 }
 
-fn read_positions(alloc: Global, json: &Json) -> Result<Items<Known>, LineFault>
-    ensures exact { Reads result (positions_of (view json.now)) }
+fn read_positions(alloc: Global, json: &Borrowed<'_>) -> Result<Items<Known>, LineFault>
+    ensures exact { Reads result (positions_of (seen json.now)) }
     ensures distinct { IfOk result (λ positions. IsDistinct bytes_eq (map (λ known. known.bucket) positions)) }
     ensures within { IfOk result (λ positions. All (λ known. known.after.0 ≤ greatest) positions) }
 {
-    let Some(list) = json.get("buckets").and_then(Json::as_array) else {
+    let Some(list) = member(json, "buckets").and_then(as_list) else {
         return Ok(Items::new(alloc));
     };
     let entries = read_entries(alloc, list.as_slice())?;
@@ -82,8 +85,8 @@ fn read_positions(alloc: Global, json: &Json) -> Result<Items<Known>, LineFault>
     Ok(positions)
 }
 
-fn read_entries(alloc: Global, list: &[Json]) -> Result<Items<Known>, LineFault>
-    ensures exact { Reads result (entries_known (items_view list.now)) }
+fn read_entries(alloc: Global, list: &[Borrowed<'_>]) -> Result<Items<Known>, LineFault>
+    ensures exact { Reads result (entries_known (items_in (items_view list.now))) }
     ensures within { IfOk result (λ entries. All (λ known. known.after.0 ≤ greatest) entries) }
 {
     let mut entries = Items::new(alloc);
@@ -93,8 +96,8 @@ fn read_entries(alloc: Global, list: &[Json]) -> Result<Items<Known>, LineFault>
     Ok(entries)
 }
 
-fn read_known(alloc: Global, json: &Json) -> Result<Known, LineFault>
-    ensures exact { Reads result (known_of (view json.now)) }
+fn read_known(alloc: Global, json: &Borrowed<'_>) -> Result<Known, LineFault>
+    ensures exact { Reads result (known_of (seen json.now)) }
     ensures within { IfOk result (λ known. known.after.0 ≤ greatest) }
 {
     let bucket = read_text(alloc, json, "name")?;
@@ -119,23 +122,23 @@ fn keep_last(alloc: Global, entries: Items<Known>) -> Result<Items<Known>, Memor
     Ok(Items::from_vec(kept))
 }
 
-fn read_client(alloc: Global, json: &Json) -> Result<Option<Text>, Memory>
-    ensures { IfOk result (λ client. client ≡ client_of (view json.now)) }
+fn read_client(alloc: Global, json: &Borrowed<'_>) -> Result<Option<Text>, Memory>
+    ensures { IfOk result (λ client. client ≡ client_of (seen json.now)) }
 {
-    match json.get("client_id").and_then(Json::as_str) {
+    match member(json, "client_id").and_then(as_text) {
         Some(client) => Ok(Some(Text::from_str(alloc, client)?)),
         None => Ok(None),
     }
 }
 
-fn read_parameters(alloc: Global, json: &Json) -> Result<Text, Memory>
-    ensures value { IfOk result (λ text. text ≡ parameters_of (view json.now)) }
-    ensures is_one { IfOk result (λ text. depth (view json.now) ≤ max_depth → IsParameters text) }
+fn read_parameters(alloc: Global, json: &Borrowed<'_>) -> Result<Text, Memory>
+    ensures value { IfOk result (λ text. text ≡ parameters_of (seen json.now)) }
+    ensures is_one { IfOk result (λ text. depth (seen json.now) ≤ max_depth → IsParameters text) }
 {
-    let Some(parameters) = json.get("parameters") else {
+    let Some(parameters) = member(json, "parameters") else {
         return no_parameters(alloc);
     };
-    if !parameters.is_object() {
+    if !is_object(parameters) {
         return no_parameters(alloc);
     }
     let text = plain_parameters(alloc, parameters)?;
@@ -153,12 +156,13 @@ fn no_parameters(alloc: Global) -> Result<Text, Memory>
 }
 
 // The text of an object that is made plain.
-fn plain_parameters(alloc: Global, json: &Json) -> Result<Text, Memory>
-    ensures value { IfOk result (λ text. text ≡ compact_text (plain_of (view json.now))) }
-    ensures is_one { IfOk result (λ text. IsSome (as_object (view json.now))
-        → depth (view json.now) < max_depth → IsParameters text) }
+fn plain_parameters(alloc: Global, json: &Borrowed<'_>) -> Result<Text, Memory>
+    ensures value { IfOk result (λ text. text ≡ compact_text (plain_of (seen json.now))) }
+    ensures is_one { IfOk result (λ text. IsSome (as_object (seen json.now))
+        → depth (seen json.now) < max_depth → IsParameters text) }
 {
-    let made = plain(alloc, json)?;
+    let json = owned(alloc, json)?;
+    let made = plain(alloc, &json)?;
     let text = Text::from_string(made.to_string(alloc)?);
     let _utf8 = text.bytes();
     Ok(text)

@@ -1,17 +1,19 @@
 //! The shape of a request's body: which members may be there, and of which kind.
 
 ghost use Rattle.std.specs.Prelude.{◌≡◌};
-ghost use Rattle.serde_json.specs.View.{view, items_view};
+ghost use Rattle.json.specs.Value.{items_view};
+ghost use Rattle.ps_borrowed.specs.Borrowed.{items_in, seen};
 ghost use Rattle.ps_lines.specs.Shapes.{all_items};
 ghost use Rattle.ps_lines.specs.BodyShapes.{is_position as is_position_shape, may_have_positions as positions_may_be_there, may_have_object as object_may_be_there, may_have_truth as truth_may_be_there, may_have_true as true_may_be_there, is_body as is_body_shape};
 
 use crate::shapes::{has_text, may_have_text};
-use serde_json::Value as Json;
+use json::Value as Borrowed;
+use ps_borrowed::{as_list, as_truth, is_null, is_object, is_truth, member};
 
-pub fn is_body(json: &Json) -> bool
-    ensures { result ≡ is_body_shape (view json.now) }
+pub fn is_body(json: &Borrowed<'_>) -> bool
+    ensures { result ≡ is_body_shape (seen json.now) }
 {
-    json.is_object()
+    is_object(json)
         && may_have_positions(json, "buckets")
         && may_have_text(json, "client_id")
         && may_have_object(json, "parameters")
@@ -19,23 +21,23 @@ pub fn is_body(json: &Json) -> bool
         && may_have_truth(json, "include_checksum")
 }
 
-fn may_have_positions(json: &Json, name: &str) -> bool
-    ensures { result ≡ positions_may_be_there name.now (view json.now) }
+fn may_have_positions(json: &Borrowed<'_>, name: &str) -> bool
+    ensures { result ≡ positions_may_be_there name.now (seen json.now) }
 {
-    let Some(json) = json.get(name) else {
+    let Some(json) = member(json, name) else {
         return true;
     };
-    if json.is_null() {
+    if is_null(json) {
         return true;
     }
-    match json.as_array() {
+    match as_list(json) {
         Some(list) => are_positions(list.as_slice()),
         None => false,
     }
 }
 
-fn are_positions(list: &[Json]) -> bool
-    ensures { result ≡ all_items is_position_shape (items_view list.now) }
+fn are_positions(list: &[Borrowed<'_>]) -> bool
+    ensures { result ≡ all_items is_position_shape (items_in (items_view list.now)) }
 {
     'positions: for json in list {
         if !is_position(json) {
@@ -45,35 +47,35 @@ fn are_positions(list: &[Json]) -> bool
     true
 }
 
-fn is_position(json: &Json) -> bool
-    ensures { result ≡ is_position_shape (view json.now) }
+fn is_position(json: &Borrowed<'_>) -> bool
+    ensures { result ≡ is_position_shape (seen json.now) }
 {
     has_text(json, "after") && has_text(json, "name")
 }
 
-fn may_have_object(json: &Json, name: &str) -> bool
-    ensures { result ≡ object_may_be_there name.now (view json.now) }
+fn may_have_object(json: &Borrowed<'_>, name: &str) -> bool
+    ensures { result ≡ object_may_be_there name.now (seen json.now) }
 {
-    match json.get(name) {
+    match member(json, name) {
         None => true,
-        Some(json) => json.is_null() || json.is_object(),
+        Some(json) => is_null(json) || is_object(json),
     }
 }
 
-fn may_have_truth(json: &Json, name: &str) -> bool
-    ensures { result ≡ truth_may_be_there name.now (view json.now) }
+fn may_have_truth(json: &Borrowed<'_>, name: &str) -> bool
+    ensures { result ≡ truth_may_be_there name.now (seen json.now) }
 {
-    match json.get(name) {
+    match member(json, name) {
         None => true,
-        Some(json) => json.is_null() || json.is_boolean(),
+        Some(json) => is_null(json) || is_truth(json),
     }
 }
 
-fn may_have_true(json: &Json, name: &str) -> bool
-    ensures { result ≡ true_may_be_there name.now (view json.now) }
+fn may_have_true(json: &Borrowed<'_>, name: &str) -> bool
+    ensures { result ≡ true_may_be_there name.now (seen json.now) }
 {
-    match json.get(name) {
+    match member(json, name) {
         None => true,
-        Some(json) => json.is_null() || json.as_bool().unwrap_or(false),
+        Some(json) => is_null(json) || as_truth(json).unwrap_or(false),
     }
 }

@@ -1,7 +1,9 @@
 ghost use Rattle.std.specs.Prelude.{◌≡◌, IfOk, Ok, Err};
 ghost use Rattle.std.specs.Str.{IsUtf8};
 ghost use Rattle.ps_lines.specs.declared.faults.LineFault.TheVariants.{BadJson};
-ghost use Rattle.serde_json.specs.View.{view, items_view, members_view};
+ghost use Rattle.json.specs.Value.{items_view, members_view};
+ghost use Rattle.serde_json.specs.Data.{no_members};
+ghost use Rattle.ps_borrowed.specs.Borrowed.{items_in, members_in, entries_seen, seen};
 ghost use Rattle.ps_lines.specs.declared.lines.Line.{Line as SomeLine};
 ghost use Rattle.ps_lines.specs.Grammar.{IsLine};
 ghost use Rattle.ps_lines.specs.Members.{Reads};
@@ -13,12 +15,16 @@ use crate::members::{
 };
 use crate::shapes::{is_checkpoint, is_data, is_diff};
 use crate::{Entry, Line, LineFault};
+use json::{Scratch, Value as Borrowed};
+use ps_borrowed::{
+    as_list, as_members, as_number, as_text, in_order, is_null, member, read_borrowed,
+};
 use ps_bucket_log::{Key, Op};
 use ps_checksum::Sum;
 use ps_data::{Items, OpId, Text};
-use ps_values::{decimals_read_back, read_json};
-use serde_json::{Map, Value as Json};
+use ps_values::decimals_read_back;
 use std::alloc::Global;
+use std::collections::BTreeMap;
 
 /// Reads one line, with or without its closing line feed: docs/FORMATS.md, "Stream lines". Targets are not
 /// told: a MOVE has its own id as target, a CLEAR none.
@@ -41,11 +47,12 @@ fn read_whole_line(alloc: Global, bytes: &[u8]) -> Result<Line, LineFault>
     ensures exact { Reads result (line_of bytes.now) }
     ensures no_text { ¬ (IsUtf8 (cut_feed bytes.now)) → result ≡ Err BadJson }
 {
-    let Some(json) = read_json(alloc, without_feed(bytes))? else {
+    let mut room = Scratch::new(alloc);
+    let Some(json) = read_borrowed(alloc, without_feed(bytes), &mut room)? else {
         return Err(LineFault::BadJson);
     };
-    match json.as_object() {
-        Some(object) => read_members(alloc, object),
+    match as_members(&json) {
+        Some(members) => read_members(alloc, members),
         None => Err(LineFault::BadShape),
     }
 }
@@ -59,22 +66,35 @@ fn without_feed(bytes: &[u8]) -> &[u8]
     }
 }
 
-// The line that an object with a single member is.
-fn read_members(alloc: Global, object: &Map<String, Json>) -> Result<Line, LineFault>
-    ensures { Reads result (line_of_members (members_view object.now.entries)) }
+// The line that an object with a single member is; of a member that stands more than once the last is meant.
+fn read_members<'v, 'a>(
+    alloc: Global,
+    members: &'v Vec<(&'a str, Borrowed<'a>)>,
+) -> Result<Line, LineFault>
+    ensures { Reads result (line_of_members (members_in (members_view members.now.items) no_members)) }
 {
-    let mut members = object.iter();
+    let ordered = in_order(alloc, members)?;
+    read_single(alloc, &ordered)
+}
+
+fn read_single<'v, 'a>(
+    alloc: Global,
+    ordered: &BTreeMap<&'a str, &'v Borrowed<'a>>,
+) -> Result<Line, LineFault>
+    ensures { Reads result (line_of_members (entries_seen ordered.now.entries)) }
+{
+    let mut members = ordered.iter();
     let Some((name, json)) = members.next() else {
         return Err(LineFault::BadShape);
     };
     if members.next().is_some() {
         return Err(LineFault::BadShape);
     }
-    read_named(alloc, name.as_str(), json)
+    read_named(alloc, name, json)
 }
 
-fn read_named(alloc: Global, name: &str, json: &Json) -> Result<Line, LineFault>
-    ensures { Reads result (line_named name.now (view json.now)) }
+fn read_named(alloc: Global, name: &str, json: &Borrowed<'_>) -> Result<Line, LineFault>
+    ensures { Reads result (line_named name.now (seen json.now)) }
 {
     if name == "checkpoint" {
         return read_shaped_checkpoint(alloc, json);
@@ -95,10 +115,10 @@ fn read_named(alloc: Global, name: &str, json: &Json) -> Result<Line, LineFault>
     Ok(Line::Unknown)
 }
 
-fn read_expires(json: &Json) -> Result<Line, LineFault>
-    ensures { Reads result (expires_of (view json.now)) }
+fn read_expires(json: &Borrowed<'_>) -> Result<Line, LineFault>
+    ensures { Reads result (expires_of (seen json.now)) }
 {
-    let Some(number) = json.as_number() else {
+    let Some(number) = as_number(json) else {
         return Err(LineFault::BadShape);
     };
     match number.as_u64() {
@@ -107,8 +127,8 @@ fn read_expires(json: &Json) -> Result<Line, LineFault>
     }
 }
 
-fn read_shaped_checkpoint(alloc: Global, json: &Json) -> Result<Line, LineFault>
-    ensures { Reads result (shaped (is_checkpoint_shape (view json.now)) (checkpoint_of (view json.now))) }
+fn read_shaped_checkpoint(alloc: Global, json: &Borrowed<'_>) -> Result<Line, LineFault>
+    ensures { Reads result (shaped (is_checkpoint_shape (seen json.now)) (checkpoint_of (seen json.now))) }
 {
     if !is_checkpoint(json) {
         return Err(LineFault::BadShape);
@@ -116,8 +136,8 @@ fn read_shaped_checkpoint(alloc: Global, json: &Json) -> Result<Line, LineFault>
     read_checkpoint(alloc, json)
 }
 
-fn read_shaped_diff(alloc: Global, json: &Json) -> Result<Line, LineFault>
-    ensures { Reads result (shaped (is_diff_shape (view json.now)) (diff_of (view json.now))) }
+fn read_shaped_diff(alloc: Global, json: &Borrowed<'_>) -> Result<Line, LineFault>
+    ensures { Reads result (shaped (is_diff_shape (seen json.now)) (diff_of (seen json.now))) }
 {
     if !is_diff(json) {
         return Err(LineFault::BadShape);
@@ -125,8 +145,8 @@ fn read_shaped_diff(alloc: Global, json: &Json) -> Result<Line, LineFault>
     read_diff(alloc, json)
 }
 
-fn read_shaped_data(alloc: Global, json: &Json) -> Result<Line, LineFault>
-    ensures { Reads result (shaped (is_data_shape (view json.now)) (data_of (view json.now))) }
+fn read_shaped_data(alloc: Global, json: &Borrowed<'_>) -> Result<Line, LineFault>
+    ensures { Reads result (shaped (is_data_shape (seen json.now)) (data_of (seen json.now))) }
 {
     if !is_data(json) {
         return Err(LineFault::BadShape);
@@ -134,12 +154,12 @@ fn read_shaped_data(alloc: Global, json: &Json) -> Result<Line, LineFault>
     read_data(alloc, json)
 }
 
-fn read_checkpoint(alloc: Global, json: &Json) -> Result<Line, LineFault>
-    ensures { Reads result (checkpoint_of (view json.now)) }
+fn read_checkpoint(alloc: Global, json: &Borrowed<'_>) -> Result<Line, LineFault>
+    ensures { Reads result (checkpoint_of (seen json.now)) }
 {
     let last_op = read_id(alloc, json, "last_op_id")?;
     let number = read_upload(alloc, json)?;
-    let Some(list) = json.get("buckets").and_then(Json::as_array) else {
+    let Some(list) = member(json, "buckets").and_then(as_list) else {
         return Err(LineFault::BadShape);
     };
     let buckets = read_entries(alloc, list.as_slice())?;
@@ -150,16 +170,16 @@ fn read_checkpoint(alloc: Global, json: &Json) -> Result<Line, LineFault>
     })
 }
 
-fn read_diff(alloc: Global, json: &Json) -> Result<Line, LineFault>
-    ensures { Reads result (diff_of (view json.now)) }
+fn read_diff(alloc: Global, json: &Borrowed<'_>) -> Result<Line, LineFault>
+    ensures { Reads result (diff_of (seen json.now)) }
 {
     let last_op = read_id(alloc, json, "last_op_id")?;
     let number = read_upload(alloc, json)?;
-    let Some(list) = json.get("removed_buckets").and_then(Json::as_array) else {
+    let Some(list) = member(json, "removed_buckets").and_then(as_list) else {
         return Err(LineFault::BadShape);
     };
     let removed = read_texts(alloc, list.as_slice())?;
-    let Some(list) = json.get("updated_buckets").and_then(Json::as_array) else {
+    let Some(list) = member(json, "updated_buckets").and_then(as_list) else {
         return Err(LineFault::BadShape);
     };
     let updated = read_entries(alloc, list.as_slice())?;
@@ -171,13 +191,13 @@ fn read_diff(alloc: Global, json: &Json) -> Result<Line, LineFault>
     })
 }
 
-fn read_data(alloc: Global, json: &Json) -> Result<Line, LineFault>
-    ensures { Reads result (data_of (view json.now)) }
+fn read_data(alloc: Global, json: &Borrowed<'_>) -> Result<Line, LineFault>
+    ensures { Reads result (data_of (seen json.now)) }
 {
     let bucket = read_text(alloc, json, "bucket")?;
     let after = read_id(alloc, json, "after")?;
     let has_more = read_truth(json, "has_more")?;
-    let Some(list) = json.get("data").and_then(Json::as_array) else {
+    let Some(list) = member(json, "data").and_then(as_list) else {
         return Err(LineFault::BadShape);
     };
     let ops = read_ops(alloc, list.as_slice())?;
@@ -195,24 +215,24 @@ fn read_data(alloc: Global, json: &Json) -> Result<Line, LineFault>
 }
 
 // The number of the client's newest upload, where there is one.
-fn read_upload(alloc: Global, json: &Json) -> Result<Option<u64>, LineFault>
-    ensures { Reads result (upload_at (view json.now)) }
+fn read_upload(alloc: Global, json: &Borrowed<'_>) -> Result<Option<u64>, LineFault>
+    ensures { Reads result (upload_at (seen json.now)) }
 {
-    let Some(upload) = json.get("write_checkpoint") else {
+    let Some(upload) = member(json, "write_checkpoint") else {
         return Ok(None);
     };
-    if upload.is_null() {
+    if is_null(upload) {
         return Ok(None);
     }
     Ok(Some(read_decimal_at(alloc, json, "write_checkpoint")?))
 }
 
-fn read_texts(alloc: Global, list: &[Json]) -> Result<Items<Text>, LineFault>
-    ensures { Reads result (texts_of (items_view list.now)) }
+fn read_texts(alloc: Global, list: &[Borrowed<'_>]) -> Result<Items<Text>, LineFault>
+    ensures { Reads result (texts_of (items_in (items_view list.now))) }
 {
     let mut texts = Items::new(alloc);
     'texts: for json in list {
-        let Some(text) = json.as_str() else {
+        let Some(text) = as_text(json) else {
             return Err(LineFault::BadShape);
         };
         texts.push(Text::from_str(alloc, text)?)?;
@@ -220,8 +240,8 @@ fn read_texts(alloc: Global, list: &[Json]) -> Result<Items<Text>, LineFault>
     Ok(texts)
 }
 
-fn read_entries(alloc: Global, list: &[Json]) -> Result<Items<Entry>, LineFault>
-    ensures { Reads result (entries_of (items_view list.now)) }
+fn read_entries(alloc: Global, list: &[Borrowed<'_>]) -> Result<Items<Entry>, LineFault>
+    ensures { Reads result (entries_of (items_in (items_view list.now))) }
 {
     let mut entries = Items::new(alloc);
     'entries: for json in list {
@@ -230,8 +250,8 @@ fn read_entries(alloc: Global, list: &[Json]) -> Result<Items<Entry>, LineFault>
     Ok(entries)
 }
 
-fn read_entry(alloc: Global, json: &Json) -> Result<Entry, LineFault>
-    ensures { Reads result (entry_of (view json.now)) }
+fn read_entry(alloc: Global, json: &Borrowed<'_>) -> Result<Entry, LineFault>
+    ensures { Reads result (entry_of (seen json.now)) }
 {
     let bucket = read_text(alloc, json, "bucket")?;
     let sum = read_sum(json, "checksum")?;
@@ -245,8 +265,8 @@ fn read_entry(alloc: Global, json: &Json) -> Result<Entry, LineFault>
     })
 }
 
-fn read_ops(alloc: Global, list: &[Json]) -> Result<Items<Op>, LineFault>
-    ensures { Reads result (ops_of (items_view list.now)) }
+fn read_ops(alloc: Global, list: &[Borrowed<'_>]) -> Result<Items<Op>, LineFault>
+    ensures { Reads result (ops_of (items_in (items_view list.now))) }
 {
     let mut ops = Items::new(alloc);
     'ops: for json in list {
@@ -256,10 +276,10 @@ fn read_ops(alloc: Global, list: &[Json]) -> Result<Items<Op>, LineFault>
 }
 
 #[tactic(auto, unfolding(crate::specs::Reading::op_of))]
-fn read_op(alloc: Global, json: &Json) -> Result<Op, LineFault>
-    ensures { Reads result (op_of (view json.now)) }
+fn read_op(alloc: Global, json: &Borrowed<'_>) -> Result<Op, LineFault>
+    ensures { Reads result (op_of (seen json.now)) }
 {
-    let Some(op) = json.get("op").and_then(Json::as_str) else {
+    let Some(op) = member(json, "op").and_then(as_text) else {
         return Err(LineFault::BadShape);
     };
     let id = read_id(alloc, json, "op_id")?;
@@ -267,8 +287,14 @@ fn read_op(alloc: Global, json: &Json) -> Result<Op, LineFault>
     read_op_named(alloc, op, id, sum, json)
 }
 
-fn read_op_named(alloc: Global, op: &str, id: OpId, sum: Sum, json: &Json) -> Result<Op, LineFault>
-    ensures { Reads result (op_named op.now id sum (view json.now)) }
+fn read_op_named(
+    alloc: Global,
+    op: &str,
+    id: OpId,
+    sum: Sum,
+    json: &Borrowed<'_>,
+) -> Result<Op, LineFault>
+    ensures { Reads result (op_named op.now id sum (seen json.now)) }
 {
     if op == "PUT" {
         return read_put(alloc, id, sum, json);
@@ -294,8 +320,8 @@ fn read_op_named(alloc: Global, op: &str, id: OpId, sum: Sum, json: &Json) -> Re
     Err(LineFault::BadShape)
 }
 
-fn read_put(alloc: Global, id: OpId, sum: Sum, json: &Json) -> Result<Op, LineFault>
-    ensures { Reads result (put_of id sum (view json.now)) }
+fn read_put(alloc: Global, id: OpId, sum: Sum, json: &Borrowed<'_>) -> Result<Op, LineFault>
+    ensures { Reads result (put_of id sum (seen json.now)) }
 {
     let key = read_key(alloc, json)?;
     let content = read_text(alloc, json, "data")?;
@@ -307,8 +333,8 @@ fn read_put(alloc: Global, id: OpId, sum: Sum, json: &Json) -> Result<Op, LineFa
     })
 }
 
-fn read_key(alloc: Global, json: &Json) -> Result<Key, LineFault>
-    ensures { Reads result (key_of (view json.now)) }
+fn read_key(alloc: Global, json: &Borrowed<'_>) -> Result<Key, LineFault>
+    ensures { Reads result (key_of (seen json.now)) }
 {
     let kind = read_text(alloc, json, "object_type")?;
     let id = read_text(alloc, json, "object_id")?;

@@ -1,78 +1,83 @@
 //! The shapes of lines: which members are there, and of which kind.
 
 ghost use Rattle.std.specs.Prelude.{◌≡◌, Some};
-ghost use Rattle.serde_json.specs.View.{view, items_view};
-ghost use Rattle.ps_lines.specs.Shapes.{has_text as text_is_there, has_truth as truth_is_there, has_number as number_is_there, may_have_number as number_may_be_there, may_have_text as text_may_be_there, all_items, has_list, is_text, is_entry as is_entry_shape, has_key as key_is_there, is_op_of, is_op as is_op_shape, is_checkpoint as is_checkpoint_shape, is_diff as is_diff_shape, is_data as is_data_shape};
+ghost use Rattle.json.specs.Value.{items_view};
+ghost use Rattle.ps_borrowed.specs.Borrowed.{items_in, seen};
+ghost use Rattle.ps_lines.specs.Shapes.{has_text as text_is_there, has_truth as truth_is_there, has_number as number_is_there, may_have_number as number_may_be_there, may_have_text as text_may_be_there, all_items, has_list, is_text as is_text_shape, is_entry as is_entry_shape, has_key as key_is_there, is_op_of, is_op as is_op_shape, is_checkpoint as is_checkpoint_shape, is_diff as is_diff_shape, is_data as is_data_shape};
 
-use serde_json::Value as Json;
+use json::Value as Borrowed;
+use ps_borrowed::{as_list, as_text, as_truth, is_null, is_number, is_text, member};
 
-pub fn has_text(json: &Json, name: &str) -> bool
-    ensures { result ≡ text_is_there name.now (view json.now) }
+pub fn has_text(json: &Borrowed<'_>, name: &str) -> bool
+    ensures { result ≡ text_is_there name.now (seen json.now) }
 {
-    json.get(name).and_then(Json::as_str).is_some()
+    member(json, name).and_then(as_text).is_some()
 }
 
-fn has_truth(json: &Json, name: &str) -> bool
-    ensures { result ≡ truth_is_there name.now (view json.now) }
+fn has_truth(json: &Borrowed<'_>, name: &str) -> bool
+    ensures { result ≡ truth_is_there name.now (seen json.now) }
 {
-    json.get(name).and_then(Json::as_bool).is_some()
+    member(json, name).and_then(as_truth).is_some()
 }
 
-fn has_number(json: &Json, name: &str) -> bool
-    ensures { result ≡ number_is_there name.now (view json.now) }
+fn has_number(json: &Borrowed<'_>, name: &str) -> bool
+    ensures { result ≡ number_is_there name.now (seen json.now) }
 {
-    json.get(name).and_then(Json::as_number).is_some()
-}
-
-fn may_have_number(json: &Json, name: &str) -> bool
-    ensures { result ≡ number_may_be_there name.now (view json.now) }
-{
-    match json.get(name) {
-        None => true,
-        Some(json) => json.is_number(),
+    match member(json, name) {
+        Some(json) => is_number(json),
+        None => false,
     }
 }
 
-pub fn may_have_text(json: &Json, name: &str) -> bool
-    ensures { result ≡ text_may_be_there name.now (view json.now) }
+fn may_have_number(json: &Borrowed<'_>, name: &str) -> bool
+    ensures { result ≡ number_may_be_there name.now (seen json.now) }
 {
-    match json.get(name) {
+    match member(json, name) {
         None => true,
-        Some(json) => json.is_null() || json.is_string(),
+        Some(json) => is_number(json),
     }
 }
 
-fn has_texts(json: &Json, name: &str) -> bool
-    ensures { result ≡ has_list is_text name.now (view json.now) }
+pub fn may_have_text(json: &Borrowed<'_>, name: &str) -> bool
+    ensures { result ≡ text_may_be_there name.now (seen json.now) }
 {
-    match json.get(name).and_then(Json::as_array) {
+    match member(json, name) {
+        None => true,
+        Some(json) => is_null(json) || is_text(json),
+    }
+}
+
+fn has_texts(json: &Borrowed<'_>, name: &str) -> bool
+    ensures { result ≡ has_list is_text_shape name.now (seen json.now) }
+{
+    match member(json, name).and_then(as_list) {
         Some(list) => are_texts(list.as_slice()),
         None => false,
     }
 }
 
-fn are_texts(list: &[Json]) -> bool
-    ensures { result ≡ all_items is_text (items_view list.now) }
+fn are_texts(list: &[Borrowed<'_>]) -> bool
+    ensures { result ≡ all_items is_text_shape (items_in (items_view list.now)) }
 {
     'texts: for json in list {
-        if !json.is_string() {
+        if !is_text(json) {
             return false;
         }
     }
     true
 }
 
-fn has_entries(json: &Json, name: &str) -> bool
-    ensures { result ≡ has_list is_entry_shape name.now (view json.now) }
+fn has_entries(json: &Borrowed<'_>, name: &str) -> bool
+    ensures { result ≡ has_list is_entry_shape name.now (seen json.now) }
 {
-    match json.get(name).and_then(Json::as_array) {
+    match member(json, name).and_then(as_list) {
         Some(list) => are_entries(list.as_slice()),
         None => false,
     }
 }
 
-fn are_entries(list: &[Json]) -> bool
-    ensures { result ≡ all_items is_entry_shape (items_view list.now) }
+fn are_entries(list: &[Borrowed<'_>]) -> bool
+    ensures { result ≡ all_items is_entry_shape (items_in (items_view list.now)) }
 {
     'entries: for json in list {
         if !is_entry(json) {
@@ -82,8 +87,8 @@ fn are_entries(list: &[Json]) -> bool
     true
 }
 
-fn is_entry(json: &Json) -> bool
-    ensures { result ≡ is_entry_shape (view json.now) }
+fn is_entry(json: &Borrowed<'_>) -> bool
+    ensures { result ≡ is_entry_shape (seen json.now) }
 {
     has_text(json, "bucket")
         && has_number(json, "checksum")
@@ -91,17 +96,17 @@ fn is_entry(json: &Json) -> bool
         && may_have_number(json, "priority")
 }
 
-fn has_ops(json: &Json, name: &str) -> bool
-    ensures { result ≡ has_list is_op_shape name.now (view json.now) }
+fn has_ops(json: &Borrowed<'_>, name: &str) -> bool
+    ensures { result ≡ has_list is_op_shape name.now (seen json.now) }
 {
-    match json.get(name).and_then(Json::as_array) {
+    match member(json, name).and_then(as_list) {
         Some(list) => are_ops(list.as_slice()),
         None => false,
     }
 }
 
-fn are_ops(list: &[Json]) -> bool
-    ensures { result ≡ all_items is_op_shape (items_view list.now) }
+fn are_ops(list: &[Borrowed<'_>]) -> bool
+    ensures { result ≡ all_items is_op_shape (items_in (items_view list.now)) }
 {
     'ops: for json in list {
         if !is_op(json) {
@@ -111,8 +116,8 @@ fn are_ops(list: &[Json]) -> bool
     true
 }
 
-fn is_op(json: &Json) -> bool
-    ensures { result ≡ is_op_shape (view json.now) }
+fn is_op(json: &Borrowed<'_>) -> bool
+    ensures { result ≡ is_op_shape (seen json.now) }
 {
     let common = has_text(json, "op_id")
         && has_number(json, "checksum")
@@ -120,15 +125,15 @@ fn is_op(json: &Json) -> bool
     if !common {
         return false;
     }
-    match json.get("op").and_then(Json::as_str) {
+    match member(json, "op").and_then(as_text) {
         Some(op) => is_op_named(op, json),
         None => false,
     }
 }
 
 // Whether the members are there that this kind of operation has besides.
-fn is_op_named(op: &str, json: &Json) -> bool
-    ensures { result ≡ is_op_of (Some op.now) (view json.now) }
+fn is_op_named(op: &str, json: &Borrowed<'_>) -> bool
+    ensures { result ≡ is_op_of (Some op.now) (seen json.now) }
 {
     if op == "PUT" {
         return has_key(json) && has_text(json, "data");
@@ -139,22 +144,22 @@ fn is_op_named(op: &str, json: &Json) -> bool
     op == "MOVE" || op == "CLEAR"
 }
 
-fn has_key(json: &Json) -> bool
-    ensures { result ≡ key_is_there (view json.now) }
+fn has_key(json: &Borrowed<'_>) -> bool
+    ensures { result ≡ key_is_there (seen json.now) }
 {
     has_text(json, "object_type") && has_text(json, "object_id") && has_text(json, "subkey")
 }
 
-pub fn is_checkpoint(json: &Json) -> bool
-    ensures { result ≡ is_checkpoint_shape (view json.now) }
+pub fn is_checkpoint(json: &Borrowed<'_>) -> bool
+    ensures { result ≡ is_checkpoint_shape (seen json.now) }
 {
     has_text(json, "last_op_id")
         && may_have_text(json, "write_checkpoint")
         && has_entries(json, "buckets")
 }
 
-pub fn is_diff(json: &Json) -> bool
-    ensures { result ≡ is_diff_shape (view json.now) }
+pub fn is_diff(json: &Borrowed<'_>) -> bool
+    ensures { result ≡ is_diff_shape (seen json.now) }
 {
     has_text(json, "last_op_id")
         && may_have_text(json, "write_checkpoint")
@@ -162,8 +167,8 @@ pub fn is_diff(json: &Json) -> bool
         && has_entries(json, "updated_buckets")
 }
 
-pub fn is_data(json: &Json) -> bool
-    ensures { result ≡ is_data_shape (view json.now) }
+pub fn is_data(json: &Borrowed<'_>) -> bool
+    ensures { result ≡ is_data_shape (seen json.now) }
 {
     has_text(json, "bucket")
         && has_text(json, "after")
