@@ -161,8 +161,8 @@ fn plain_parameters(alloc: Global, json: &Borrowed<'_>) -> Result<Text, Memory>
     ensures is_one { IfOk result (λ text. IsSome (as_object (seen json.now))
         → depth (seen json.now) < max_depth → IsParameters text) }
 {
-    let json = owned(alloc, json)?;
-    let made = plain(alloc, &json)?;
+    let object = owned(alloc, json)?;
+    let made = plain(alloc, &object)?;
     let text = Text::from_string(made.to_string(alloc)?);
     let _utf8 = text.bytes();
     Ok(text)

@@ -1,8 +1,9 @@
 use Rattle.std.proofs.Common.{◌≡◌, drop}
-use Rattle.serde_json.specs.View.{items_view}
+use Rattle.json.specs.Value.{items_view}
+use Rattle.ps_borrowed.specs.Borrowed.{items_in}
 use Rattle.ps_lines.specs.Shapes.{all_items, is_op}
 use Rattle.ps_lines.proofs.shapes.are_ops.Given as goal
 
 -- all are such where those that are left are
 abbrev pub invariant-ops : goal.invariant-ops
-invariant-ops l = all_items is_op (items_view l.list) ≡ all_items is_op (items_view (drop l.json-index l.list))
+invariant-ops l = all_items is_op (items_in (items_view l.list)) ≡ all_items is_op (items_in (items_view (drop l.json-index l.list)))
