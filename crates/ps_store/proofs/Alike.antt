@@ -8,9 +8,6 @@ use Rattle.ps_store.specs.declared.building.Building.{Building}
 use Rattle.ps_store.specs.declared.fixed.Fixed.{Fixed}
 use Rattle.ps_store.specs.declared.fixed.Limits.{Limits}
 use Rattle.ps_store.specs.declared.generations.Generations.{Generations}
-use Rattle.ps_rows.specs.Source.{Key}
-use Rattle.ps_store.specs.declared.rows.Rows.{Rows}
-use Rattle.ps_store.specs.Rows.{row_at}
 use Rattle.ps_store.specs.Generations.{Coming, Ended}
 use Rattle.ps_store.specs.Originals.{Timed}
 use Rattle.ps_store.specs.StoreGenerations.{mark_in, Endings, ending_from, ending_by, place_in, AreAlike, BuildingStands, GenerationsStand, HavePlaces, IndexStandsFor, IsAlike, IsBuilding, SameBuilding}
@@ -136,18 +133,4 @@ alike_then a b c x y = record {
   building = then_alike a.building b.building c.building x.building y.building;
   endings = λ bucket. y.endings bucket ∙ x.endings bucket;
   places = λ mark h. y.places mark (x.places mark h);
-}
-
-pub same_parts : (old mid : Building) (rows : Rows) → SameBuilding old mid → ((key : Key) → row_at rows key ≡ row_at mid.rows key) → SameBuilding old (record mid { rows = rows })
-same_parts old mid rows same held = record {
-  number = same.number;
-  mark = same.mark;
-  by = same.by;
-  logs = same.logs;
-  rows = λ key. held key ∙ same.rows key;
-  index_rules = same.index_rules;
-  index_last = same.index_last;
-  index_forgotten = same.index_forgotten;
-  index_notes = same.index_notes;
-  queue = same.queue;
 }

@@ -10,9 +10,6 @@ use Rattle.ps_store.specs.declared.fixed.Limits.{Limits}
 use Rattle.ps_store.specs.declared.plans.Plan.{Plan}
 use Rattle.ps_store.specs.declared.plans.Planned.{Planned}
 use Rattle.ps_store.specs.declared.plans.Refusal.{Refusal}
-use Rattle.ps_store.specs.declared.rows.Rows.{Rows}
-use Rattle.ps_rows.specs.Source.{Key}
-use Rattle.ps_store.specs.Rows.{row_at}
 use Rattle.ps_store.specs.declared.stores.Store.{Store}
 use Rattle.ps_store.specs.declared.stores.Wrote.{Wrote}
 use Rattle.ps_store.specs.declared.totals.Totals.{Totals}
@@ -46,28 +43,6 @@ usual fixed store history h = subst (λ (f : Fixed). AreWithin f.limits) (sym h.
 abbrev pub IsPlanned : Store → ℕ → Planned → Fixed → Type 0
 IsPlanned old limit planned by = (base : Ledger) → IsStart by.rules old.rows old.last.0 base
     → IsRun by.rules old.rows old.tail.changes.items base planned (take limit old.tail.changes.items) (run_from by.limits base 0 (take limit old.tail.changes.items))
-
--- places for rows are given up
-pub tidied : (old mid : Store) (rows : Rows) → IsSame old mid → ((key : Key) → row_at rows key ≡ row_at mid.rows key) → IsSame old (record mid { rows = rows })
-tidied old mid rows same held = record {
-  fixed = same.fixed;
-  logs = same.logs;
-  rows = λ key. held key ∙ same.rows key;
-  tail = same.tail;
-  index_rules = same.index_rules;
-  index_last = same.index_last;
-  index_forgotten = same.index_forgotten;
-  index_notes = same.index_notes;
-  last = same.last;
-  wrote = same.wrote;
-  totals = same.totals;
-  checkpoint = same.checkpoint;
-  committed = same.committed;
-  head = same.head;
-  closed = same.closed;
-  numbers = same.numbers;
-  generations = same.generations;
-}
 
 module _ (fixed : Fixed) (old : Store) (history : List Event) (h : StoreStandsFor fixed old history) (limit : ℕ) (planned : Planned) (given_by : Fixed) (by_is : given_by ≡ by_of old)
     (given : IsPlanned old limit planned given_by) where

@@ -255,8 +255,6 @@ impl Building {
             return Err(self.refused(alloc, last, refusal));
         }
         let Ok(_grown) = self.grow(alloc, &mut plan) else {
-            let (seen, _entered, _made) = plan.into_parts();
-            tidy_all(&mut self.rows, &seen);
             return Err(BuildFault::Memory);
         };
         let batched = self.fill(plan);

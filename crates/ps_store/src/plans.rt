@@ -142,11 +142,14 @@ fn put_all(entered: &mut Vec<Entered>, last: OpId, entries: Items<Placed>) -> Re
     Ok(OpId(id))
 }
 
-/// Gives up the places of the rows that are gone. Takes no memory.
+/// Gives up the places of the rows that are gone: nothing is looked up where none was left empty. Takes no memory.
 pub(crate) fn tidy_all(rows: &mut Rows, seen: &Seen)
     ensures { (key : KeySeen) → row_at rows.new key ≡ row_at rows.old key }
 {
-    'places: for (key, _places) in seen.iter() {
+    if !rows.take_emptied() {
+        return;
+    }
+    'places: for (key, _place) in seen.iter() {
         rows.tidy(key);
     }
 }

@@ -17,6 +17,7 @@ use ps_rows::{Change, Row};
 use std::alloc::Global;
 use std::collections::{BTreeMap, VecDeque};
 use std::marker::Model;
+use std::mem;
 
 /// A table and an id.
 pub(crate) type RowKey = (Text, Text);
@@ -82,6 +83,8 @@ pub(crate) fn copy_key(alloc: Global, key: &RowKey) -> Result<RowKey, Memory>
 #[derive(Drop)]
 pub(crate) struct Rows {
     places: BTreeMap<RowKey, Option<Live>>,
+    // Whether a place was left empty since empty places were last given up. One that was made and not used does not count.
+    emptied: bool,
 }
 
 impl Rows {
@@ -91,6 +94,7 @@ impl Rows {
     {
         Rows {
             places: BTreeMap::new(alloc),
+            emptied: false,
         }
     }
 
@@ -149,9 +153,36 @@ impl Rows {
         ensures rows { (other : Key) → row_at self.new other ≡ (if eq_by_cmp key_cmp other key.now then row else row_at self.old other) }
         ensures places { (other : Key) → has_place self.new other ≡ has_place self.old other }
     {
+        self.note(&row);
+        self.fill_place(key, row);
+    }
+
+    // Notes whether a place is left empty.
+    fn note(&mut self, row: &Option<Live>)
+        ensures rows { (other : Key) → row_at self.new other ≡ row_at self.old other }
+        ensures places { (other : Key) → has_place self.new other ≡ has_place self.old other }
+    {
+        if row.is_none() {
+            self.emptied = true;
+        }
+    }
+
+    fn fill_place(&mut self, key: &RowKey, row: Option<Live>)
+        requires { has_place self.old key.now ≡ true }
+        ensures rows { (other : Key) → row_at self.new other ≡ (if eq_by_cmp key_cmp other key.now then row else row_at self.old other) }
+        ensures places { (other : Key) → has_place self.new other ≡ has_place self.old other }
+    {
         if let Some(place) = self.places.get_mut(key) {
             *place = row;
         }
+    }
+
+    /// Whether a place was left empty since this was last asked. Takes no memory.
+    pub(crate) fn take_emptied(&mut self) -> bool
+        ensures answer { result ≡ self.old.emptied }
+        ensures rows { (other : Key) → row_at self.new other ≡ row_at self.old other }
+    {
+        mem::replace(&mut self.emptied, false)
     }
 
     /// Gives up a place that stands empty. Takes no memory.

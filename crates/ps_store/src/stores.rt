@@ -327,8 +327,6 @@ impl Store {
             return Err(self.refused(alloc, refusal));
         }
         let Ok(copies) = self.grow(alloc, &mut plan) else {
-            let (seen, _entered, _made) = plan.into_parts();
-            tidy_all(&mut self.rows, &seen);
             return Err(WriteFault::Memory);
         };
         let wrote = Wrote {

@@ -1,7 +1,6 @@
 use Rattle.std.proofs.Common.{rules, refl, ◌∙◌, arith}
 use Rattle.ps_store.specs.declared.building.Building.{Building}
 use Rattle.ps_store.specs.StoreGenerations.{SameBuilding}
-use Rattle.ps_store.proofs.Alike.{same_parts}
 use Rattle.ps_store.proofs.BuiltBatch.{there, refused, take_newer, take_rising, take_count, take_rows, take_rise, grown, wants}
 use Rattle.ps_store.proofs.building.Building.take_batch.Goals as goal
 
@@ -13,8 +12,7 @@ returns-then-count-eq0-clause-grows c = λ coming l b. refused c.args.self.now c
 
 pub returns-in_default-clause-grows : goal.returns-in_default-clause-grows
 returns-in_default-clause-grows c = λ coming l b.
-    let same : SameBuilding c.args.self.now (record c.grow.new.self { rows = c.tidy_all.new.rows }) = same_parts c.args.self.now c.grow.new.self c.tidy_all.new.rows c.grow.ensures.same c.tidy_all.ensures in
-    wants c.args.self.now coming l c.args.last b (λ none. search (rules, none)) (record c.grow.new.self { rows = c.tidy_all.new.rows }) same
+    wants c.args.self.now coming l c.args.last b (λ none. search (rules, none)) c.grow.new.self c.grow.ensures.same
 
 pub fill-batched-requires-clause-newer : goal.fill-batched-requires-clause-newer
 fill-batched-requires-clause-newer c = take_newer c.args.self.now c.requires.stands.0 c.requires.stands.1 c.args.last c.requires.stands.2 c.requires.limits.entries c.args.limit c.in_ok-planned.planned c.in_ok-planned.ensures c.grow.new.plan c.in-Ok.ensures.marked c.in-Ok.ensures.made c.in-Ok.ensures.last c.grow.new.self c.in-Ok.ensures.same

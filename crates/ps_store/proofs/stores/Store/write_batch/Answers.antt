@@ -1,8 +1,6 @@
 use Rattle.std.proofs.Common.{rules, ◌≡◌, ◌≤◌, [], refl, ◌∙◌, length, arith}
-use Rattle.ps_store.specs.declared.stores.Store.{Store}
 use Rattle.ps_store.specs.declared.stores.Wrote.{Wrote}
-use Rattle.ps_store.specs.Stores.{IsSame}
-use Rattle.ps_store.proofs.Batching.{there, refused, wants, tidied, counts_low, ops_are_low, fill_newer, fill_tied, fill_count, fill_rows, fill_rise, fill_rising, fill_counts, done, settled}
+use Rattle.ps_store.proofs.Batching.{there, refused, wants, counts_low, ops_are_low, fill_newer, fill_tied, fill_count, fill_rows, fill_rise, fill_rising, fill_counts, done, settled}
 use Rattle.ps_store.proofs.stores.Store.write_batch.Goals as goal
 
 pub refused-requires : goal.refused-requires
@@ -15,9 +13,7 @@ returns-then-count-eq0 c = λ fixed history h.
 
 pub returns-in_default : goal.returns-in_default
 returns-in_default c = λ fixed history h.
-    let new : Store = record c.grow.new.self { rows = c.tidy_all.new.rows } in
-    let same : IsSame c.args.self.now new = tidied c.args.self.now c.grow.new.self c.tidy_all.new.rows c.grow.ensures.same c.tidy_all.ensures in
-    (λ none. let held : c.args.self.now.tail.changes.items ≡ [] = h.stands.changes ∙ none in search (rules, held), wants fixed c.args.self.now history h c.args.limit c.in_ok-planned.planned c.by.result.now c.by.ensures c.in_ok-planned.ensures new same)
+    (λ none. let held : c.args.self.now.tail.changes.items ≡ [] = h.stands.changes ∙ none in search (rules, held), wants fixed c.args.self.now history h c.args.limit c.in_ok-planned.planned c.by.result.now c.by.ensures c.in_ok-planned.ensures c.grow.new.self c.grow.ensures.same)
 
 pub overflow_cast-wrote : goal.overflow_cast-wrote
 overflow_cast-wrote c =
