@@ -7,7 +7,7 @@ ghost use Rattle.ps_borrowed.specs.Borrowed.{items_in, members_in, entries_seen,
 ghost use Rattle.ps_lines.specs.declared.lines.Line.{Line as SomeLine};
 ghost use Rattle.ps_lines.specs.Grammar.{IsLine};
 ghost use Rattle.ps_lines.specs.Members.{Reads};
-ghost use Rattle.ps_lines.specs.Reading.{upload_at, entry_of, entries_of, texts_of, key_of, put_of, op_named, op_of, ops_of, rises_from as rises_past, leads as leads_to, checkpoint_of, diff_of, data_of, expires_of, shaped, line_named, line_of_members, without_feed as cut_feed, line_of};
+ghost use Rattle.ps_lines.specs.Reading.{upload_at, entry_of, entries_of, texts_of, key_of, put_of, op_named, op_of, ops_of, rises_from as rises_past, leads as leads_to, checkpoint_of, diff_of, data_of, expires_of, shaped, line_named, line_of_members, line_of_json, without_feed as cut_feed, line_of};
 ghost use Rattle.ps_lines.specs.Shapes.{is_checkpoint as is_checkpoint_shape, is_diff as is_diff_shape, is_data as is_data_shape};
 
 use crate::members::{
@@ -16,9 +16,7 @@ use crate::members::{
 use crate::shapes::{is_checkpoint, is_data, is_diff};
 use crate::{Entry, Line, LineFault};
 use json::{Scratch, Value as Borrowed};
-use ps_borrowed::{
-    as_list, as_members, as_number, as_text, in_order, is_null, member, read_borrowed,
-};
+use ps_borrowed::{as_list, as_number, as_text, in_order, is_null, member, read_borrowed};
 use ps_bucket_log::{Key, Op};
 use ps_checksum::Sum;
 use ps_data::{Items, OpId, Text};
@@ -51,10 +49,7 @@ fn read_whole_line(alloc: Global, bytes: &[u8]) -> Result<Line, LineFault>
     let Some(json) = read_borrowed(alloc, without_feed(bytes), &mut room)? else {
         return Err(LineFault::BadJson);
     };
-    match as_members(&json) {
-        Some(members) => read_members(alloc, members),
-        None => Err(LineFault::BadShape),
-    }
+    read_json(alloc, &json)
 }
 
 fn without_feed(bytes: &[u8]) -> &[u8]
@@ -63,6 +58,19 @@ fn without_feed(bytes: &[u8]) -> &[u8]
     match bytes {
         [front @ .., b'\n'] => front,
         _ => bytes,
+    }
+}
+
+fn read_json(alloc: Global, json: &Borrowed<'_>) -> Result<Line, LineFault>
+    ensures { Reads result (line_of_json (seen json.now)) }
+{
+    match json {
+        Borrowed::Object(members) => read_members(alloc, members),
+        Borrowed::Null
+        | Borrowed::Bool(_)
+        | Borrowed::Number(_)
+        | Borrowed::String(_)
+        | Borrowed::Array(_) => Err(LineFault::BadShape),
     }
 }
 
