@@ -156,7 +156,8 @@ pub fn in_order<'v, 'a>(
     alloc: Global,
     members: &'v Vec<(&'a str, Borrowed<'a>)>,
 ) -> Result<BTreeMap<&'a str, &'v Borrowed<'a>>, Memory>
-    ensures { IfOk result (λ ordered. entries_seen ordered.entries ≡ members_in (members_view members.now.items) no_members) }
+    ensures { IfOk result (λ ordered. entries_seen ordered.entries
+        ≡ members_in (members_view members.now.items) no_members) }
 {
     let mut ordered = BTreeMap::new(alloc);
     'members: for member in members {
@@ -183,7 +184,8 @@ pub fn owned(alloc: Global, json: &Borrowed<'_>) -> Result<Json, Memory>
 
 #[cycle(owned)]
 fn owned_items(alloc: Global, items: &Vec<Borrowed<'_>>) -> Result<Vec<Json>, Memory>
-    ensures { IfOk result (λ made. tree_items_view made.items ≡ items_in (items_view items.now.items)) }
+    ensures { IfOk result (λ made. tree_items_view made.items
+        ≡ items_in (items_view items.now.items)) }
 {
     let mut made = Vec::with_capacity(alloc, items.len())?;
     'items: for item in items {

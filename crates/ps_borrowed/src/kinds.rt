@@ -88,7 +88,8 @@ pub fn is_text(json: &Borrowed<'_>) -> bool
 
 /// The items of a JSON value that is an array; None where it is none.
 pub fn as_list<'v, 'a>(json: &'v Borrowed<'a>) -> Option<&'v Vec<Borrowed<'a>>>
-    ensures { option_map (λ list. items_in (items_view list.now.items)) result ≡ as_array (seen json.now) }
+    ensures { option_map (λ list. items_in (items_view list.now.items)) result
+        ≡ as_array (seen json.now) }
 {
     if let Borrowed::Array(list) = json {
         Some(list)
@@ -99,7 +100,8 @@ pub fn as_list<'v, 'a>(json: &'v Borrowed<'a>) -> Option<&'v Vec<Borrowed<'a>>>
 
 /// The members of a JSON value that is an object; None where it is none.
 pub fn as_members<'v, 'a>(json: &'v Borrowed<'a>) -> Option<&'v Vec<(&'a str, Borrowed<'a>)>>
-    ensures { option_map (λ members. members_in (members_view members.now.items) no_members) result ≡ as_object (seen json.now) }
+    ensures { option_map (λ members. members_in (members_view members.now.items) no_members) result
+        ≡ as_object (seen json.now) }
 {
     if let Borrowed::Object(members) = json {
         Some(members)

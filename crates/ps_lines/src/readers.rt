@@ -79,7 +79,8 @@ fn read_members<'v, 'a>(
     alloc: Global,
     members: &'v Vec<(&'a str, Borrowed<'a>)>,
 ) -> Result<Line, LineFault>
-    ensures { Reads result (line_of_members (members_in (members_view members.now.items) no_members)) }
+    ensures { Reads result
+        (line_of_members (members_in (members_view members.now.items) no_members)) }
 {
     let ordered = in_order(alloc, members)?;
     read_single(alloc, &ordered)

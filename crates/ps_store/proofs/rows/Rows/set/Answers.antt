@@ -1,4 +1,4 @@
--- What a row is noted for changes none.
+-- That a place is noted as left empty changes no row.
 use Rattle.std.proofs.Common.{Option, cond, ap, ◌∙◌}
 use Rattle.std.specs.Ordering.{eq_by_cmp}
 use Rattle.ps_rows.specs.Source.{Version, key_cmp}
