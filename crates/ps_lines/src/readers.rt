@@ -49,7 +49,7 @@ fn read_whole_line(alloc: Global, bytes: &[u8]) -> Result<Line, LineFault>
     let Some(json) = read_borrowed(alloc, without_feed(bytes), &mut room)? else {
         return Err(LineFault::BadJson);
     };
-    read_json(alloc, &json)
+    read_json_line(alloc, &json)
 }
 
 fn without_feed(bytes: &[u8]) -> &[u8]
@@ -61,7 +61,7 @@ fn without_feed(bytes: &[u8]) -> &[u8]
     }
 }
 
-fn read_json(alloc: Global, json: &Borrowed<'_>) -> Result<Line, LineFault>
+fn read_json_line(alloc: Global, json: &Borrowed<'_>) -> Result<Line, LineFault>
     ensures { Reads result (line_of_json (seen json.now)) }
 {
     match json {
