@@ -9,11 +9,11 @@ mod values;
 mod words;
 
 use crate::lines::print_line;
-use case_words::{Stop, cut};
+use case_words::{Reply, Stop, cut};
 use std::alloc::Global;
 
 // Cases of values, numbers and JSON; false where the word begins none.
-fn answer_value(alloc: Global, word: &str, rest: &str, out: &mut String) -> Result<bool, Stop> {
+fn answer_value(alloc: Global, word: &str, rest: &str, out: &mut Reply) -> Result<bool, Stop> {
     let written = match word {
         "quoted" => values::write_quoted(alloc, rest.as_bytes(), out),
         "quoted-bytes" => {
@@ -46,7 +46,7 @@ fn answer_value(alloc: Global, word: &str, rest: &str, out: &mut String) -> Resu
 }
 
 // Cases of sums and logs.
-fn answer_log(alloc: Global, word: &str, rest: &str, out: &mut String) -> Result<bool, Stop> {
+fn answer_log(alloc: Global, word: &str, rest: &str, out: &mut Reply) -> Result<bool, Stop> {
     let written = match word {
         "add" => sums::write_added(rest, out),
         "first-four" => sums::write_first_four(rest, out),
@@ -65,7 +65,7 @@ fn answer_log(alloc: Global, word: &str, rest: &str, out: &mut String) -> Result
 }
 
 // Cases of files and sinks.
-fn answer_io(rt: &HostRuntime, word: &str, rest: &str, out: &mut String) -> Result<bool, Stop> {
+fn answer_io(rt: &HostRuntime, word: &str, rest: &str, out: &mut Reply) -> Result<bool, Stop> {
     let written = match word {
         "memory-files" => outside::write_of_memory(rt.alloc(), rest, out),
         "sure-files" => outside::write_of_sure(rt.alloc(), rest, out),
@@ -79,15 +79,15 @@ fn answer_io(rt: &HostRuntime, word: &str, rest: &str, out: &mut String) -> Resu
 }
 
 // Calls the laws, which do nothing.
-fn call_laws(out: &mut String) -> Result<bool, Stop> {
+fn call_laws(out: &mut Reply) -> Result<bool, Stop> {
     values::call_laws();
     sums::call_law();
     logs::call_laws();
-    out.push_str("nothing")?;
+    out.push("nothing");
     Ok(true)
 }
 
-fn answer(rt: &HostRuntime, line: &str, out: &mut String) -> Result<(), Stop> {
+fn answer(rt: &HostRuntime, line: &str, out: &mut Reply) -> Result<(), Stop> {
     let (word, rest) = cut(line);
     let is_answered = answer_value(rt.alloc(), word, rest, out)?
         || answer_log(rt.alloc(), word, rest, out)?
@@ -101,7 +101,7 @@ fn answer(rt: &HostRuntime, line: &str, out: &mut String) -> Result<(), Stop> {
 }
 
 /// Answers the cases.
-pub fn answer_all(rt: HostRuntime, cases: &str, out: &mut String) -> Result<(), Stop> {
+pub fn answer_all(rt: HostRuntime, cases: &str, out: &mut Reply) -> Result<(), Stop> {
     'lines: for line in cases.lines() {
         answer(&rt, line, out)?;
         print_line(rt, out)?;

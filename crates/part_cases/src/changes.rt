@@ -4,7 +4,7 @@ use ps_data::{Memory, Value};
 use ps_rows::{Change, Row};
 
 /// What a change does, its table and its id, and the columns of its row; behind the name of a null stands `null`.
-pub fn write_change(out: &mut String, change: &Change, null: &str) -> Result<(), Memory> {
+pub fn write_change(out: &mut Reply, change: &Change, null: &str) -> Result<(), Memory> {
     let (table, id) = (change.table.as_str(), change.id.as_str());
     match &change.row {
         Some(row) => {
@@ -15,7 +15,7 @@ pub fn write_change(out: &mut String, change: &Change, null: &str) -> Result<(),
     }
 }
 
-fn write_row(out: &mut String, row: &Row, null: &str) -> Result<(), Memory> {
+fn write_row(out: &mut Reply, row: &Row, null: &str) -> Result<(), Memory> {
     'columns: for column in row.columns() {
         let name = column.name.as_str();
         let written = match &column.value {

@@ -58,7 +58,7 @@ fn reopened(
 fn opened(
     alloc: Global,
     keeper: Option<MemoryKeeper>,
-    out: &mut String,
+    out: &mut Reply,
 ) -> Result<Option<Client<MemoryKeeper>>, Stop> {
     match open(alloc, keeper) {
         Ok(client) => {
@@ -76,7 +76,7 @@ fn opened(
 fn begun(
     alloc: Global,
     calls: &str,
-    out: &mut String,
+    out: &mut Reply,
 ) -> Result<Option<Client<MemoryKeeper>>, Stop> {
     let keeper = MemoryKeeper::new(alloc, numbers(alloc, calls)?);
     opened(alloc, Some(keeper), out)
@@ -91,7 +91,7 @@ fn renew(
     alloc: Global,
     client: &mut Option<Client<MemoryKeeper>>,
     calls: &str,
-    out: &mut String,
+    out: &mut Reply,
 ) -> Result<(), Stop> {
     *client = begun(alloc, calls, out)?;
     Ok(())
@@ -101,7 +101,7 @@ fn renew(
 fn open_again(
     alloc: Global,
     client: &mut Option<Client<MemoryKeeper>>,
-    out: &mut String,
+    out: &mut Reply,
 ) -> Result<(), Stop> {
     let keeper = closed(client.take());
     *client = opened(alloc, keeper, out)?;
@@ -112,7 +112,7 @@ fn answer(
     alloc: Global,
     client: &mut Client<MemoryKeeper>,
     line: &str,
-    out: &mut String,
+    out: &mut Reply,
 ) -> Result<(), Stop> {
     let (word, rest) = cut(line);
     if streams::answer(alloc, client, word, rest, out)? {
@@ -128,7 +128,7 @@ fn answer_open(
     alloc: Global,
     client: &mut Option<Client<MemoryKeeper>>,
     line: &str,
-    out: &mut String,
+    out: &mut Reply,
 ) -> Result<(), Stop> {
     match client {
         Some(client) => answer(alloc, client, line, out),
@@ -141,7 +141,7 @@ fn step(
     alloc: Global,
     client: &mut Option<Client<MemoryKeeper>>,
     line: &str,
-    out: &mut String,
+    out: &mut Reply,
 ) -> Result<(), Stop> {
     let (word, rest) = cut(line);
     match word {
@@ -152,7 +152,7 @@ fn step(
 }
 
 /// Answers the cases.
-pub fn answer_all(rt: HostRuntime, cases: &str, out: &mut String) -> Result<(), Stop> {
+pub fn answer_all(rt: HostRuntime, cases: &str, out: &mut Reply) -> Result<(), Stop> {
     let mut client = begun(rt.alloc(), "-", out)?;
     out.clear();
     'lines: for line in cases.lines() {

@@ -16,7 +16,7 @@ use ps_compact::{
 use std::alloc::Global;
 
 // Calls the laws, which do nothing.
-fn call_laws(out: &mut String) -> Result<(), Stop> {
+fn call_laws(out: &mut Reply) -> Result<(), Stop> {
     compacted_logs_are_logs();
     compacted_logs_stand();
     compacted_logs_keep_sums();
@@ -25,7 +25,7 @@ fn call_laws(out: &mut String) -> Result<(), Stop> {
     Ok(out.push_str("nothing")?)
 }
 
-fn answer(alloc: Global, line: &str, out: &mut String) -> Result<(), Stop> {
+fn answer(alloc: Global, line: &str, out: &mut Reply) -> Result<(), Stop> {
     let (word, rest) = cut(line);
     match word {
         "log" => events::write_log(alloc, rest, out),
@@ -37,7 +37,7 @@ fn answer(alloc: Global, line: &str, out: &mut String) -> Result<(), Stop> {
 }
 
 /// Answers the cases.
-pub fn answer_all(rt: HostRuntime, cases: &str, out: &mut String) -> Result<(), Stop> {
+pub fn answer_all(rt: HostRuntime, cases: &str, out: &mut Reply) -> Result<(), Stop> {
     'lines: for line in cases.lines() {
         answer(rt.alloc(), line, out)?;
         print_line(rt, out)?;

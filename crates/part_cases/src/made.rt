@@ -6,7 +6,7 @@ use case_words::Stop;
 use ps_gen::{make_input, make_rules};
 use ps_rows::Transaction;
 
-fn write_transaction(out: &mut String, transaction: &Transaction) -> Result<(), Stop> {
+fn write_transaction(out: &mut Reply, transaction: &Transaction) -> Result<(), Stop> {
     write!(out, "{}", transaction.position.0)?;
     'changes: for change in transaction.changes.as_slice() {
         write_change(out, change, "")?;
@@ -15,7 +15,7 @@ fn write_transaction(out: &mut String, transaction: &Transaction) -> Result<(), 
 }
 
 // Prints so many transactions.
-fn print_made(rt: HostRuntime, count: u32, out: &mut String) -> Result<(), Stop> {
+fn print_made(rt: HostRuntime, count: u32, out: &mut Reply) -> Result<(), Stop> {
     let transactions = make_input(rt.alloc(), count)?;
     'transactions: for transaction in transactions.as_slice() {
         write_transaction(out, transaction)?;
@@ -25,7 +25,7 @@ fn print_made(rt: HostRuntime, count: u32, out: &mut String) -> Result<(), Stop>
 }
 
 /// Prints the rules, and the transactions of each line.
-pub fn answer_all(rt: HostRuntime, cases: &str, out: &mut String) -> Result<(), Stop> {
+pub fn answer_all(rt: HostRuntime, cases: &str, out: &mut Reply) -> Result<(), Stop> {
     let rules = make_rules(rt.alloc())?;
     print!(rt; "{}", str::from_utf8(&rules)?)?;
     'lines: for line in cases.lines() {

@@ -15,13 +15,13 @@ mod scripts;
 mod sessions;
 mod tokens;
 
-use case_words::Stop;
+use case_words::{Reply, Stop};
 use std::{io, thread};
 
 // Half a gibibyte more than that of `powersync`: the cases of readers nest deep, and another compiler may make larger frames.
 const STACK: usize = 2147483648;
 
-fn answer_part(rt: HostRuntime, part: &str, cases: &str, out: &mut String) -> Result<(), Stop> {
+fn answer_part(rt: HostRuntime, part: &str, cases: &str, out: &mut Reply) -> Result<(), Stop> {
     match part {
         "compaction" => compaction::answer_all(rt, cases, out),
         "numbers" => numbers::answer_all(rt, cases, out),
@@ -37,7 +37,7 @@ fn answer_part(rt: HostRuntime, part: &str, cases: &str, out: &mut String) -> Re
     }
 }
 
-fn answer_all(rt: HostRuntime, text: &str, out: &mut String) -> Result<(), Stop> {
+fn answer_all(rt: HostRuntime, text: &str, out: &mut Reply) -> Result<(), Stop> {
     let parts = text.strip_prefix("== ").ok_or("no heading")?;
     'parts: for part in parts.split("\n== ") {
         let (part, cases) = part.split_once('\n').unwrap_or((part, ""));
@@ -49,7 +49,7 @@ fn answer_all(rt: HostRuntime, text: &str, out: &mut String) -> Result<(), Stop>
 
 fn answer_input(rt: HostRuntime) -> Result<(), Stop> {
     let text = io::read_to_string(rt.alloc(), rt.reader())?;
-    let mut out = String::new(rt.alloc());
+    let mut out = Reply::new(rt.alloc());
     answer_all(rt, text.as_str(), &mut out)
 }
 

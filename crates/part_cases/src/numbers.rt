@@ -37,7 +37,7 @@ fn words(alloc: Global, rest: &str) -> Result<(Text, Text, u64), Stop> {
     ))
 }
 
-fn write_number(alloc: Global, desk: &mut Desk, rest: &str, out: &mut String) -> Result<(), Stop> {
+fn write_number(alloc: Global, desk: &mut Desk, rest: &str, out: &mut Reply) -> Result<(), Stop> {
     let (user, client, head) = words(alloc, rest)?;
     if head < desk.head {
         return Err("the head falls".into());
@@ -51,7 +51,7 @@ fn write_number(alloc: Global, desk: &mut Desk, rest: &str, out: &mut String) ->
     Ok(())
 }
 
-fn write_covered(alloc: Global, desk: &Desk, rest: &str, out: &mut String) -> Result<(), Stop> {
+fn write_covered(alloc: Global, desk: &Desk, rest: &str, out: &mut Reply) -> Result<(), Stop> {
     let (user, client, position) = words(alloc, rest)?;
     match desk.numbers.covered(&user, &client, Position(position)) {
         Some(number) => write!(out, "covered {number}")?,
@@ -61,7 +61,7 @@ fn write_covered(alloc: Global, desk: &Desk, rest: &str, out: &mut String) -> Re
 }
 
 // Takes a step.
-fn answer(alloc: Global, desk: &mut Desk, line: &str, out: &mut String) -> Result<(), Stop> {
+fn answer(alloc: Global, desk: &mut Desk, line: &str, out: &mut Reply) -> Result<(), Stop> {
     let (word, rest) = cut(line);
     match word {
         "top" => {
@@ -75,7 +75,7 @@ fn answer(alloc: Global, desk: &mut Desk, line: &str, out: &mut String) -> Resul
 }
 
 /// Answers the cases.
-pub fn answer_all(rt: HostRuntime, cases: &str, out: &mut String) -> Result<(), Stop> {
+pub fn answer_all(rt: HostRuntime, cases: &str, out: &mut Reply) -> Result<(), Stop> {
     ps_write_cp::covered_is_the_greatest();
     ps_write_cp::covers_all_before();
     let mut desk = fresh(rt.alloc(), GREATEST);

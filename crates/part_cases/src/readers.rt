@@ -21,7 +21,7 @@ use cases::push_answer;
 use evaluations::Asking;
 
 /// Answers the cases.
-pub fn answer_all(rt: HostRuntime, cases: &str, out: &mut String) -> Result<(), Stop> {
+pub fn answer_all(rt: HostRuntime, cases: &str, out: &mut Reply) -> Result<(), Stop> {
     let mut asking = Asking::new(rt.alloc());
     'lines: for line in cases.lines() {
         push_answer(rt.alloc(), &mut asking, out, line)?;

@@ -24,7 +24,7 @@ use ps_data::Text;
 use ps_http::query_value;
 use std::alloc::Global;
 
-fn write_value(alloc: Global, rest: &str, out: &mut String) -> Result<(), Stop> {
+fn write_value(alloc: Global, rest: &str, out: &mut Reply) -> Result<(), Stop> {
     let (name, query) = cut(rest);
     let name = Text::from_str(alloc, name)?;
     let query = Text::from_str(alloc, query)?;
@@ -59,7 +59,7 @@ fn answer(
     word: &str,
     rest: &str,
     request: &[u8],
-    out: &mut String,
+    out: &mut Reply,
 ) -> Result<(), Stop> {
     match word {
         "head" => reading::write_head_read(alloc, request, rest, out)?,
@@ -78,7 +78,7 @@ fn answer(
 }
 
 /// Answers the cases.
-pub fn answer_all(rt: HostRuntime, cases: &str, out: &mut String) -> Result<(), Stop> {
+pub fn answer_all(rt: HostRuntime, cases: &str, out: &mut Reply) -> Result<(), Stop> {
     let mut request = Vec::new(rt.alloc());
     'lines: for line in cases.lines() {
         let (word, rest) = cut(line);

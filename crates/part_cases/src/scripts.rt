@@ -11,7 +11,7 @@ use ps_script::{is_skipped, read_event, split_line};
 use std::alloc::Global;
 
 // What a script's line is read as.
-fn show_line(alloc: Global, out: &mut String, line: &[u8]) -> Result<(), Memory> {
+fn show_line(alloc: Global, out: &mut Reply, line: &[u8]) -> Result<(), Memory> {
     if is_skipped(line) {
         return Ok(out.push_str("skipped")?);
     }
@@ -22,7 +22,7 @@ fn show_line(alloc: Global, out: &mut String, line: &[u8]) -> Result<(), Memory>
 }
 
 // What each of the lines is read as.
-fn answer(alloc: Global, out: &mut String, bytes: &[u8]) -> Result<(), Memory> {
+fn answer(alloc: Global, out: &mut Reply, bytes: &[u8]) -> Result<(), Memory> {
     let (line, mut rest) = split_line(bytes);
     show_line(alloc, out, line)?;
     'lines: while let Some(bytes) = rest {
@@ -35,7 +35,7 @@ fn answer(alloc: Global, out: &mut String, bytes: &[u8]) -> Result<(), Memory> {
 }
 
 /// Answers the cases.
-pub fn answer_all(rt: HostRuntime, cases: &str, out: &mut String) -> Result<(), Stop> {
+pub fn answer_all(rt: HostRuntime, cases: &str, out: &mut Reply) -> Result<(), Stop> {
     ps_script::events_are_spelled();
     'lines: for line in cases.lines() {
         let bytes = unescaped(rt.alloc(), line)?;

@@ -44,7 +44,7 @@ fn begin(alloc: Global, rest: &str) -> Result<Session, Stop> {
     ))
 }
 
-fn take(alloc: Global, session: &mut Session, rest: &str, out: &mut String) -> Result<(), Stop> {
+fn take(alloc: Global, session: &mut Session, rest: &str, out: &mut Reply) -> Result<(), Stop> {
     let taken = taken_of(alloc, rest)?;
     if !names_rise(taken.buckets.as_slice()) {
         return Err("the names do not rise".into());
@@ -55,7 +55,7 @@ fn take(alloc: Global, session: &mut Session, rest: &str, out: &mut String) -> R
     }
 }
 
-fn read(alloc: Global, session: &mut Session, batch: Batch, out: &mut String) -> Result<(), Stop>
+fn read(alloc: Global, session: &mut Session, batch: Batch, out: &mut Reply) -> Result<(), Stop>
     requires { (batch.ops ≢ []) ⊎ (batch.passed ≢ None) }
 {
     match session.next_action() {
@@ -68,7 +68,7 @@ fn read_ops(
     alloc: Global,
     session: &mut Session,
     rest: &str,
-    out: &mut String,
+    out: &mut Reply,
 ) -> Result<(), Stop> {
     let (more, rest) = cut(rest, ' ');
     let (target, rest) = cut(rest, ' ');
@@ -89,7 +89,7 @@ fn read_passed(
     alloc: Global,
     session: &mut Session,
     rest: &str,
-    out: &mut String,
+    out: &mut Reply,
 ) -> Result<(), Stop> {
     let batch = Batch {
         ops: Items::new(alloc),
@@ -100,14 +100,14 @@ fn read_passed(
     read(alloc, session, batch, out)
 }
 
-fn finish(session: &mut Session, out: &mut String) -> Result<(), Stop> {
+fn finish(session: &mut Session, out: &mut Reply) -> Result<(), Stop> {
     match session.next_action() {
         Action::Complete => write_line(&session.finish(), out),
         Action::Take | Action::Read { .. } | Action::Wait => Err("nothing is complete".into()),
     }
 }
 
-fn action(session: &Session, out: &mut String) -> Result<(), Stop> {
+fn action(session: &Session, out: &mut Reply) -> Result<(), Stop> {
     match session.next_action() {
         Action::Read { place, after, upto } => {
             let name = session.bucket_at(place).as_str();
@@ -119,7 +119,7 @@ fn action(session: &Session, out: &mut String) -> Result<(), Stop> {
     }
 }
 
-fn answer(alloc: Global, session: &mut Session, line: &str, out: &mut String) -> Result<(), Stop> {
+fn answer(alloc: Global, session: &mut Session, line: &str, out: &mut Reply) -> Result<(), Stop> {
     let (word, rest) = cut(line, ' ');
     match word {
         "#" => write_action(line, out),
@@ -145,7 +145,7 @@ fn answer(alloc: Global, session: &mut Session, line: &str, out: &mut String) ->
 }
 
 /// Answers the cases.
-pub fn answer_all(rt: HostRuntime, cases: &str, out: &mut String) -> Result<(), Stop> {
+pub fn answer_all(rt: HostRuntime, cases: &str, out: &mut Reply) -> Result<(), Stop> {
     let mut session = begin(rt.alloc(), "")?;
     'lines: for line in cases.lines() {
         answer(rt.alloc(), &mut session, line, out)?;

@@ -24,7 +24,7 @@ use ps_data::Text;
 use ps_token::{Claims, Keys, KeysFault, SignFault, TokenFault, mac, read_keys, sign, verify};
 use std::alloc::Global;
 
-fn write_mac(alloc: Global, rest: &str, out: &mut String) -> Result<(), Stop> {
+fn write_mac(alloc: Global, rest: &str, out: &mut Reply) -> Result<(), Stop> {
     let (key, message) = cut(rest);
     let key = words::bytes(alloc, key)?;
     let message = words::bytes(alloc, message)?;
@@ -34,7 +34,7 @@ fn write_mac(alloc: Global, rest: &str, out: &mut String) -> Result<(), Stop> {
 }
 
 // The keys of a file, which it writes one after another.
-fn write_keys(alloc: Global, rest: &str, out: &mut String) -> Result<Option<Keys>, Stop> {
+fn write_keys(alloc: Global, rest: &str, out: &mut Reply) -> Result<Option<Keys>, Stop> {
     let fault = match read_keys(alloc, rest.as_bytes()) {
         Ok(keys) => {
             write_list(alloc, &keys, out)?;
@@ -48,7 +48,7 @@ fn write_keys(alloc: Global, rest: &str, out: &mut String) -> Result<Option<Keys
     Ok(None)
 }
 
-fn write_list(alloc: Global, keys: &Keys, out: &mut String) -> Result<(), Stop> {
+fn write_list(alloc: Global, keys: &Keys, out: &mut Reply) -> Result<(), Stop> {
     out.push_str("keys")?;
     'keys: for key in keys.as_slice() {
         out.push_str(" ")?;
@@ -59,7 +59,7 @@ fn write_list(alloc: Global, keys: &Keys, out: &mut String) -> Result<(), Stop> 
     Ok(())
 }
 
-fn write_claims(claims: &Claims, out: &mut String) -> Result<(), Stop> {
+fn write_claims(claims: &Claims, out: &mut Reply) -> Result<(), Stop> {
     out.push_str("accepted ")?;
     out.push_str(claims.subject.as_str())?;
     out.push_str(" ")?;
@@ -74,7 +74,7 @@ fn write_verified(
     keys: &Keys,
     now: u64,
     token: &[u8],
-    out: &mut String,
+    out: &mut Reply,
 ) -> Result<(), Stop> {
     let fault = match verify(alloc, keys, token, now) {
         Ok(claims) => return write_claims(&claims, out),
@@ -93,7 +93,7 @@ fn write_verified(
 }
 
 // The token that is signed; where it is refused, the refusal is written.
-fn signed(alloc: Global, keys: &Keys, rest: &str, out: &mut String) -> Result<Option<Text>, Stop> {
+fn signed(alloc: Global, keys: &Keys, rest: &str, out: &mut Reply) -> Result<Option<Text>, Stop> {
     let (kid, payload) = cut(rest);
     let kid = Text::from_str(alloc, kid)?;
     let payload = Text::from_str(alloc, payload)?;
@@ -106,14 +106,14 @@ fn signed(alloc: Global, keys: &Keys, rest: &str, out: &mut String) -> Result<Op
     Ok(None)
 }
 
-fn write_signed(alloc: Global, keys: &Keys, rest: &str, out: &mut String) -> Result<(), Stop> {
+fn write_signed(alloc: Global, keys: &Keys, rest: &str, out: &mut Reply) -> Result<(), Stop> {
     if let Some(token) = signed(alloc, keys, rest, out)? {
         out.push_str(token.as_str())?;
     }
     Ok(())
 }
 
-fn write_round(alloc: Global, keys: &Keys, rest: &str, out: &mut String) -> Result<(), Stop> {
+fn write_round(alloc: Global, keys: &Keys, rest: &str, out: &mut Reply) -> Result<(), Stop> {
     let (now, rest) = cut(rest);
     let now = number_in(now)?;
     if let Some(token) = signed(alloc, keys, rest, out)? {
@@ -127,7 +127,7 @@ fn write_token(
     keys: &Keys,
     word: &str,
     rest: &str,
-    out: &mut String,
+    out: &mut Reply,
 ) -> Result<(), Stop> {
     if word == "sign" {
         return write_signed(alloc, keys, rest, out);
@@ -151,7 +151,7 @@ fn answer(
     alloc: Global,
     keys: &mut Option<Keys>,
     line: &str,
-    out: &mut String,
+    out: &mut Reply,
 ) -> Result<(), Stop> {
     let (word, rest) = cut(line);
     if word == "mac" {
@@ -168,7 +168,7 @@ fn answer(
 }
 
 /// Answers the cases.
-pub fn answer_all(rt: HostRuntime, cases: &str, out: &mut String) -> Result<(), Stop> {
+pub fn answer_all(rt: HostRuntime, cases: &str, out: &mut Reply) -> Result<(), Stop> {
     ps_token::base64url_is_strict();
     let mut keys = None;
     'lines: for line in cases.lines() {

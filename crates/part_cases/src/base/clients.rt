@@ -127,23 +127,23 @@ fn opened<K: Keeper + Drop>(alloc: Global, keeper: K) -> Result<ClientLog<K>, Ke
     }
 }
 
-fn add_row(out: &mut String, row: &Shown) -> Result<(), Memory> {
+fn add_row(out: &mut Reply, row: &Shown) -> Result<(), Memory> {
     Ok(write!(out, " {}={}", row.id.as_str(), row.content.as_str())?)
 }
 
-fn add_rows(out: &mut String, rows: &[Shown]) -> Result<(), Memory> {
+fn add_rows(out: &mut Reply, rows: &[Shown]) -> Result<(), Memory> {
     'rows: for row in rows {
         add_row(out, row)?;
     }
     Ok(())
 }
 
-fn add_bucket(out: &mut String, name: &str, position: u64, total: u32) -> Result<(), Memory> {
+fn add_bucket(out: &mut Reply, name: &str, position: u64, total: u32) -> Result<(), Memory> {
     Ok(write!(out, "{name} {position} {total};")?)
 }
 
 fn add_buckets<K: Keeper>(
-    out: &mut String,
+    out: &mut Reply,
     log: &ClientLog<K>,
     names: &[Text],
 ) -> Result<(), Memory> {
@@ -154,7 +154,7 @@ fn add_buckets<K: Keeper>(
 }
 
 // Adds the position and the total of each bucket, and then the rows.
-fn add_told<K: Keeper>(out: &mut String, log: &ClientLog<K>, alloc: Global) -> Result<(), Memory> {
+fn add_told<K: Keeper>(out: &mut Reply, log: &ClientLog<K>, alloc: Global) -> Result<(), Memory> {
     let names = log.names(alloc)?;
     add_buckets(out, log, names.as_slice())?;
     let rows = log.held_rows(alloc)?;
@@ -164,7 +164,7 @@ fn add_told<K: Keeper>(out: &mut String, log: &ClientLog<K>, alloc: Global) -> R
 
 // Adds what a log tells, and then what another tells that is opened with its keeper.
 fn add_told_twice<K: Keeper + Drop>(
-    out: &mut String,
+    out: &mut Reply,
     log: ClientLog<K>,
     alloc: Global,
 ) -> Result<(), KeepFault> {
@@ -174,14 +174,14 @@ fn add_told_twice<K: Keeper + Drop>(
 }
 
 // The history in two parts, of which the second begins with an id.
-fn add_parts(out: &mut String, alloc: Global, middle: u64) -> Result<(), KeepFault> {
+fn add_parts(out: &mut Reply, alloc: Global, middle: u64) -> Result<(), KeepFault> {
     let mut log = opened(alloc, SureKeeper::new(alloc))?;
     take_history(&mut log, alloc, 1, middle)?;
     take_history(&mut log, alloc, middle, 9)?;
     add_told_twice(out, log, alloc)
 }
 
-fn add_singles(out: &mut String, alloc: Global) -> Result<(), KeepFault> {
+fn add_singles(out: &mut Reply, alloc: Global) -> Result<(), KeepFault> {
     let mut log = opened(alloc, SureKeeper::new(alloc))?;
     'ids: for id in 1..9 {
         take_history(&mut log, alloc, id, id + 1)?;
@@ -189,7 +189,7 @@ fn add_singles(out: &mut String, alloc: Global) -> Result<(), KeepFault> {
     add_told_twice(out, log, alloc)
 }
 
-fn add_none(out: &mut String, alloc: Global) -> Result<(), KeepFault> {
+fn add_none(out: &mut Reply, alloc: Global) -> Result<(), KeepFault> {
     let mut log = opened(alloc, SureKeeper::new(alloc))?;
     take_history(&mut log, alloc, 1, 1)?;
     add_told_twice(out, log, alloc)
@@ -239,7 +239,7 @@ fn step<K: Keeper>(log: &mut ClientLog<K>, alloc: Global, call: u64) -> Result<(
 
 // Takes a step. Where it fails, adds what is told then, and takes it again.
 fn step_on<K: Keeper>(
-    out: &mut String,
+    out: &mut Reply,
     log: &mut ClientLog<K>,
     alloc: Global,
     call: u64,
@@ -252,7 +252,7 @@ fn step_on<K: Keeper>(
 }
 
 // Adds what is told after the call that fails, and after all steps.
-fn add_failing(out: &mut String, alloc: Global, call: u64) -> Result<(), KeepFault> {
+fn add_failing(out: &mut Reply, alloc: Global, call: u64) -> Result<(), KeepFault> {
     let mut log = opened(alloc, failing(alloc, call)?)?;
     'steps: for step in 2..5 {
         step_on(out, &mut log, alloc, step)?;
@@ -270,7 +270,7 @@ fn share<K: Keeper>(log: &mut ClientLog<K>, alloc: Global, step: u64) -> Result<
     }
 }
 
-fn add_shared(out: &mut String, alloc: Global) -> Result<(), KeepFault> {
+fn add_shared(out: &mut Reply, alloc: Global) -> Result<(), KeepFault> {
     let mut log = opened(alloc, SureKeeper::new(alloc))?;
     'steps: for step in 0..4 {
         share(&mut log, alloc, step)?;
@@ -316,7 +316,7 @@ fn edit(log: &mut ClientLog<SureKeeper>, alloc: Global) -> Result<(), KeepFault>
 }
 
 // Adds what a log with a bucket tells after those edits.
-fn add_edited(out: &mut String, alloc: Global) -> Result<(), KeepFault> {
+fn add_edited(out: &mut Reply, alloc: Global) -> Result<(), KeepFault> {
     let mut log = opened(alloc, SureKeeper::new(alloc))?;
     hold(&mut log, alloc, "b", 5, "of b")?;
     edit(&mut log, alloc)?;
@@ -326,7 +326,7 @@ fn add_edited(out: &mut String, alloc: Global) -> Result<(), KeepFault> {
 }
 
 // Adds what a log tells that is opened with a keeper of which the load has failed, and before it the keeper's faults.
-fn add_failed_load(out: &mut String, alloc: Global) -> Result<(), KeepFault> {
+fn add_failed_load(out: &mut Reply, alloc: Global) -> Result<(), KeepFault> {
     let keeper = failed(alloc)?;
     write!(out, "{} ", keeper.keep_faults())?;
     let log = opened(alloc, keeper)?;
@@ -334,17 +334,17 @@ fn add_failed_load(out: &mut String, alloc: Global) -> Result<(), KeepFault> {
 }
 
 /// What a client tells after the history in two parts, of which the second begins with an id.
-pub fn write_parts(alloc: Global, middle: &str, out: &mut String) -> Result<(), Stop> {
+pub fn write_parts(alloc: Global, middle: &str, out: &mut Reply) -> Result<(), Stop> {
     Ok(add_parts(out, alloc, number_in(middle)?)?)
 }
 
 /// What a client tells where a call of its keeper fails, once after that call and then after all.
-pub fn write_failing(alloc: Global, call: &str, out: &mut String) -> Result<(), Stop> {
+pub fn write_failing(alloc: Global, call: &str, out: &mut Reply) -> Result<(), Stop> {
     Ok(add_failing(out, alloc, number_in(call)?)?)
 }
 
 /// What a client tells in a case that has a name.
-pub fn write_case(alloc: Global, name: &str, out: &mut String) -> Result<(), Stop> {
+pub fn write_case(alloc: Global, name: &str, out: &mut Reply) -> Result<(), Stop> {
     match name {
         "singles" => Ok(add_singles(out, alloc)?),
         "none" => Ok(add_none(out, alloc)?),

@@ -68,7 +68,7 @@ fn compacted_ops(alloc: Global) -> Result<Items<Op>, Stop>
     Ok(ops)
 }
 
-fn write_id(out: &mut String, id: Option<OpId>) -> Result<(), Stop> {
+fn write_id(out: &mut Reply, id: Option<OpId>) -> Result<(), Stop> {
     match id {
         Some(id) => Ok(write!(out, " {}", id.0)?),
         None => Ok(out.push_str(" none")?),
@@ -76,14 +76,14 @@ fn write_id(out: &mut String, id: Option<OpId>) -> Result<(), Stop> {
 }
 
 // How many operations a batch has, whether there are more, their target, and the id of a CLEAR that is passed.
-fn write_batch(out: &mut String, batch: &Batch) -> Result<(), Stop> {
+fn write_batch(out: &mut Reply, batch: &Batch) -> Result<(), Stop> {
     write!(out, "{} more {} target", batch.ops.len(), batch.has_more)?;
     write_id(out, batch.target)?;
     out.push_str(" passed")?;
     write_id(out, batch.passed)
 }
 
-fn write_op(out: &mut String, op: &Op) -> Result<(), Stop> {
+fn write_op(out: &mut Reply, op: &Op) -> Result<(), Stop> {
     let written = match op {
         Op::Put {
             id,
@@ -108,26 +108,26 @@ fn write_op(out: &mut String, op: &Op) -> Result<(), Stop> {
 }
 
 // The id and the key of a PUT.
-fn write_key(out: &mut String, id: u64, key: &Key) -> Result<(), Stop> {
+fn write_key(out: &mut Reply, id: u64, key: &Key) -> Result<(), Stop> {
     let (kind, row, subkey) = (key.kind.as_str(), key.id.as_str(), key.subkey.as_str());
     Ok(write!(out, "put {id} {kind} {row} {subkey}")?)
 }
 
-fn write_ops(out: &mut String, ops: &[Op]) -> Result<(), Stop> {
+fn write_ops(out: &mut Reply, ops: &[Op]) -> Result<(), Stop> {
     'ops: for op in ops {
         write_op(out, op)?;
     }
     Ok(())
 }
 
-fn write_read<L: Log>(alloc: Global, log: &L, words: &str, out: &mut String) -> Result<(), Stop> {
+fn write_read<L: Log>(alloc: Global, log: &L, words: &str, out: &mut Reply) -> Result<(), Stop> {
     let (after, upto) = cut(words);
     let batch = read(alloc, log, OpId(number_in(after)?), OpId(number_in(upto)?))?;
     write_batch(out, &batch)
 }
 
 // What a log answers to a question.
-fn write_answer<L: Log>(alloc: Global, log: &L, words: &str, out: &mut String) -> Result<(), Stop> {
+fn write_answer<L: Log>(alloc: Global, log: &L, words: &str, out: &mut Reply) -> Result<(), Stop> {
     let (question, words) = cut(words);
     match question {
         "read" => write_read(alloc, log, words, out),
@@ -140,7 +140,7 @@ fn write_answer<L: Log>(alloc: Global, log: &L, words: &str, out: &mut String) -
 }
 
 /// What a log of so many PUTs of so many bytes each answers.
-pub fn write_of_filled(alloc: Global, words: &str, out: &mut String) -> Result<(), Stop> {
+pub fn write_of_filled(alloc: Global, words: &str, out: &mut Reply) -> Result<(), Stop> {
     let (count, words) = cut(words);
     let (size, words) = cut(words);
     let mut log = BucketLog::new(alloc);
@@ -149,7 +149,7 @@ pub fn write_of_filled(alloc: Global, words: &str, out: &mut String) -> Result<(
 }
 
 /// What the compacted log answers.
-pub fn write_of_compacted(alloc: Global, words: &str, out: &mut String) -> Result<(), Stop> {
+pub fn write_of_compacted(alloc: Global, words: &str, out: &mut Reply) -> Result<(), Stop> {
     let mut log = BucketLog::new(alloc);
     log.rebuild(alloc, compacted_ops(alloc)?)?;
     write_answer(alloc, &log, words, out)
@@ -167,7 +167,7 @@ fn are_equal(alloc: Global, key: &Key, other: &Key) -> Result<(bool, bool), Stop
 }
 
 /// Whether a PUT and a key of an id equal their copies, and whether that key equals one of another id.
-pub fn write_copies(alloc: Global, ids: &str, out: &mut String) -> Result<(), Stop> {
+pub fn write_copies(alloc: Global, ids: &str, out: &mut Reply) -> Result<(), Stop> {
     let (id, other) = cut(ids);
     let same_op = is_copied(alloc)?;
     let (same_key, equal) = are_equal(alloc, &key(alloc, id)?, &key(alloc, other)?)?;

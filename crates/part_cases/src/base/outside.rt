@@ -22,7 +22,7 @@ fn three_files(alloc: Global) -> Result<Items<MemoryFile>, Stop> {
 }
 
 // What was read, in whole where it is short; else how many bytes it has and the first four of its SHA-256.
-fn write_content(out: &mut String, content: &[u8]) -> Result<(), Stop> {
+fn write_content(out: &mut Reply, content: &[u8]) -> Result<(), Stop> {
     if content.len() < 10 {
         Ok(write!(out, " ok {}", str::from_utf8(content)?)?)
     } else {
@@ -36,7 +36,7 @@ fn write_read<F: Files>(
     files: &mut F,
     name: &str,
     limit: u64,
-    out: &mut String,
+    out: &mut Reply,
 ) -> Result<(), Stop> {
     match files.read(alloc, &Text::from_str(alloc, name)?, limit) {
         Ok(content) => write_content(out, content.as_slice())?,
@@ -52,7 +52,7 @@ fn write_reads<F: Files>(
     alloc: Global,
     files: &mut F,
     words: &str,
-    out: &mut String,
+    out: &mut Reply,
 ) -> Result<(), Stop> {
     write!(out, "{};", files.file_faults())?;
     let mut name = None;
@@ -66,7 +66,7 @@ fn write_reads<F: Files>(
 }
 
 /// What files in memory answer, of which the calls of some numbers fail.
-pub fn write_of_memory(alloc: Global, words: &str, out: &mut String) -> Result<(), Stop> {
+pub fn write_of_memory(alloc: Global, words: &str, out: &mut Reply) -> Result<(), Stop> {
     let (failing, words) = cut(words);
     let failing = Items::from_vec(numbers(alloc, failing)?);
     let mut files = MemoryFiles::new(alloc, three_files(alloc)?, failing);
@@ -74,19 +74,19 @@ pub fn write_of_memory(alloc: Global, words: &str, out: &mut String) -> Result<(
 }
 
 /// What files in memory answer that never fail.
-pub fn write_of_sure(alloc: Global, words: &str, out: &mut String) -> Result<(), Stop> {
+pub fn write_of_sure(alloc: Global, words: &str, out: &mut Reply) -> Result<(), Stop> {
     let mut files = SureFiles::new(alloc, three_files(alloc)?);
     write_reads(alloc, &mut files, words, out)
 }
 
 /// What the system's files answer.
-pub fn write_of_disk(rt: &HostRuntime, words: &str, out: &mut String) -> Result<(), Stop> {
+pub fn write_of_disk(rt: &HostRuntime, words: &str, out: &mut Reply) -> Result<(), Stop> {
     let mut files = DiskFiles::new(*rt);
     write_reads(rt.alloc(), &mut files, words, out)
 }
 
 // Writes a piece: the answer, and how many faults there were by then. The piece `-` is empty.
-fn write_piece<S: Sink>(sink: &mut S, piece: &str, out: &mut String) -> Result<(), Stop> {
+fn write_piece<S: Sink>(sink: &mut S, piece: &str, out: &mut Reply) -> Result<(), Stop> {
     let piece = if piece == "-" { "" } else { piece };
     let answer = match sink.write(piece.as_bytes()) {
         Ok(()) => "ok",
@@ -95,12 +95,12 @@ fn write_piece<S: Sink>(sink: &mut S, piece: &str, out: &mut String) -> Result<(
     Ok(write!(out, " {answer} {}", sink.write_faults())?)
 }
 
-fn write_taken(out: &mut String, taken: &[u8]) -> Result<(), Stop> {
+fn write_taken(out: &mut Reply, taken: &[u8]) -> Result<(), Stop> {
     Ok(write!(out, " {};", str::from_utf8(taken)?)?)
 }
 
 /// What a sink in memory takes of pieces, with so much room, of which the calls of some numbers fail.
-pub fn write_of_sink(alloc: Global, words: &str, out: &mut String) -> Result<(), Stop> {
+pub fn write_of_sink(alloc: Global, words: &str, out: &mut Reply) -> Result<(), Stop> {
     let (room, words) = cut(words);
     let (failing, words) = cut(words);
     let failing = Items::from_vec(numbers(alloc, failing)?);
@@ -144,7 +144,7 @@ impl io::Write for Flaky {
 }
 
 /// What a stream takes of pieces whose writer takes two bytes at a time and fails twice.
-pub fn write_of_stream(alloc: Global, words: &str, out: &mut String) -> Result<(), Stop> {
+pub fn write_of_stream(alloc: Global, words: &str, out: &mut Reply) -> Result<(), Stop> {
     let mut writer = Flaky {
         taken: Vec::new(alloc),
         writes: 0,

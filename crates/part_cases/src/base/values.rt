@@ -1,7 +1,7 @@
 //! Values, numbers and JSON.
 
 use crate::base::words::bytes;
-use case_words::{Stop, cut, signed_number_in};
+use case_words::{Reply, Stop, cut, signed_number_in};
 use ps_data::{Boxed, Column, Items, Text, TextFault, Truth, Value};
 use ps_values::{
     ValueFault, compare, compare_is_a_total_order, decimal, decimals_read_back, document,
@@ -21,60 +21,78 @@ fn value(alloc: Global, text: &str) -> Result<Value, Stop> {
     Ok(value_of_json(alloc, &json(alloc, text)?)?)
 }
 
-fn write_value(out: &mut String, value: &Value) -> Result<(), Stop> {
+fn write_value(out: &mut Reply, value: &Value) {
     match value {
-        Value::Null => out.push_str("null")?,
-        Value::Int(number) => write!(out, "int {number}")?,
-        Value::Text(text) => write!(out, "text {}", text.as_str())?,
+        Value::Null => out.push("null"),
+        Value::Int(number) => {
+            out.push("int ");
+            out.show(number);
+        }
+        Value::Text(text) => {
+            out.push("text ");
+            out.push(text.as_str());
+        }
     }
-    Ok(())
 }
 
 /// The text in quotes, and whether it is read again as the same.
-pub fn write_quoted(alloc: Global, text: &[u8], out: &mut String) -> Result<(), Stop> {
+pub fn write_quoted(alloc: Global, text: &[u8], out: &mut Reply) -> Result<(), Stop> {
     let plain = Text::from_bytes(alloc, text)?;
     let made = quoted(alloc, &plain)?;
     let again = value(alloc, made.as_str())?;
     let is_same = again == Value::Text(plain);
-    Ok(write!(out, "{} {is_same}", made.as_str())?)
+    out.push(made.as_str());
+    out.push(if is_same { " true" } else { " false" });
+    Ok(())
 }
 
 /// What JSON is as a value.
-pub fn write_json(alloc: Global, text: &[u8], out: &mut String) -> Result<(), Stop> {
-    let Some(json) = read_json(alloc, text)? else {
-        return Ok(out.push_str("no json")?);
-    };
-    match value_of_json(alloc, &json) {
-        Ok(value) => write_value(out, &value),
-        Err(ValueFault::TooBig) => Ok(out.push_str("too big")?),
-        Err(ValueFault::NotWhole) => Ok(out.push_str("not whole")?),
-        Err(ValueFault::Memory) => Err("no memory".into()),
+pub fn write_json(alloc: Global, text: &[u8], out: &mut Reply) -> Result<(), Stop> {
+    match read_json(alloc, text)? {
+        Some(json) => write_value_of(alloc, &json, out),
+        None => {
+            out.push("no json");
+            Ok(())
+        }
     }
+}
+
+fn write_value_of(alloc: Global, json: &Json, out: &mut Reply) -> Result<(), Stop> {
+    match value_of_json(alloc, json) {
+        Ok(value) => write_value(out, &value),
+        Err(ValueFault::TooBig) => out.push("too big"),
+        Err(ValueFault::NotWhole) => out.push("not whole"),
+        Err(ValueFault::Memory) => return Err(Stop),
+    }
+    Ok(())
 }
 
 /// The number of a decimal text.
-pub fn write_decimal(alloc: Global, text: &str, out: &mut String) -> Result<(), Stop> {
+pub fn write_decimal(alloc: Global, text: &str, out: &mut Reply) -> Result<(), Stop> {
     match read_decimal(&Text::from_str(alloc, text)?) {
-        Some(number) => Ok(write!(out, "{number}")?),
-        None => Ok(out.push_str("none")?),
+        Some(number) => out.show(&number),
+        None => out.push("none"),
     }
+    Ok(())
 }
 
 /// The decimal text of a number.
-pub fn write_number(alloc: Global, number: &str, out: &mut String) -> Result<(), Stop> {
+pub fn write_number(alloc: Global, number: &str, out: &mut Reply) -> Result<(), Stop> {
     let text = decimal(alloc, signed_number_in(number)?)?;
-    Ok(out.push_str(text.as_str())?)
+    out.push(text.as_str());
+    Ok(())
 }
 
 /// Where a value stands beside another one.
-pub fn write_order(alloc: Global, values: &str, out: &mut String) -> Result<(), Stop> {
+pub fn write_order(alloc: Global, values: &str, out: &mut Reply) -> Result<(), Stop> {
     let (a, b) = cut(values);
     let order = compare(&value(alloc, a)?.copy(alloc)?, &value(alloc, b)?);
-    Ok(out.push_str(match order {
+    out.push(match order {
         Ordering::Less => "less",
         Ordering::Equal => "equal",
         Ordering::Greater => "greater",
-    })?)
+    });
+    Ok(())
 }
 
 fn word_of(truth: Truth) -> &'static str {
@@ -86,32 +104,45 @@ fn word_of(truth: Truth) -> &'static str {
 }
 
 /// Whether a value is true.
-pub fn write_truth(alloc: Global, text: &str, out: &mut String) -> Result<(), Stop> {
-    Ok(out.push_str(word_of(truth_of(&value(alloc, text)?)))?)
+pub fn write_truth(alloc: Global, text: &str, out: &mut Reply) -> Result<(), Stop> {
+    out.push(word_of(truth_of(&value(alloc, text)?)));
+    Ok(())
 }
 
 /// Whether two values are equal.
-pub fn write_equality(alloc: Global, values: &str, out: &mut String) -> Result<(), Stop> {
+pub fn write_equality(alloc: Global, values: &str, out: &mut Reply) -> Result<(), Stop> {
     let (a, b) = cut(values);
     let truth = equal_sql(&value(alloc, a)?, &value(alloc, b)?);
-    Ok(out.push_str(word_of(truth))?)
+    out.push(word_of(truth));
+    Ok(())
+}
+
+fn write_json_text(alloc: Global, json: &Json, out: &mut Reply) -> Result<(), Stop> {
+    out.push(text_of_json(alloc, json)?.as_str());
+    Ok(())
 }
 
 /// The plain JSON of a text.
-pub fn write_plain(alloc: Global, text: &str, out: &mut String) -> Result<(), Stop> {
+pub fn write_plain(alloc: Global, text: &str, out: &mut Reply) -> Result<(), Stop> {
     match plain_json(alloc, &Text::from_str(alloc, text)?)? {
-        Some(json) => Ok(out.push_str(text_of_json(alloc, &json)?.as_str())?),
-        None => Ok(out.push_str("no json")?),
+        Some(json) => write_json_text(alloc, &json, out),
+        None => {
+            out.push("no json");
+            Ok(())
+        }
     }
 }
 
 /// JSON made plain once, and twice.
-pub fn write_plain_twice(alloc: Global, text: &str, out: &mut String) -> Result<(), Stop> {
+pub fn write_plain_twice(alloc: Global, text: &str, out: &mut Reply) -> Result<(), Stop> {
     let once = plain(alloc, &json(alloc, text)?)?;
-    let twice = plain(alloc, &once)?;
-    out.push_str(text_of_json(alloc, &once)?.as_str())?;
-    out.push_str(" ")?;
-    Ok(out.push_str(text_of_json(alloc, &twice)?.as_str())?)
+    write_json_text(alloc, &once, out)?;
+    out.push(" ");
+    write_plain_again(alloc, &once, out)
+}
+
+fn write_plain_again(alloc: Global, once: &Json, out: &mut Reply) -> Result<(), Stop> {
+    write_json_text(alloc, &plain(alloc, once)?, out)
 }
 
 fn columns(alloc: Global, text: &str) -> Result<Items<Column>, Stop> {
@@ -126,61 +157,71 @@ fn columns(alloc: Global, text: &str) -> Result<Items<Column>, Stop> {
 }
 
 /// The document of an id and columns.
-pub fn write_document(alloc: Global, text: &str, out: &mut String) -> Result<(), Stop> {
+pub fn write_document(alloc: Global, text: &str, out: &mut Reply) -> Result<(), Stop> {
     let (id, text) = cut(text);
     let columns = columns(alloc, text)?;
     let made = document(alloc, &Text::from_str(alloc, id)?, columns.as_slice())?;
-    Ok(out.push_str(made.as_str())?)
+    out.push(made.as_str());
+    Ok(())
 }
 
 /// The object of columns.
-pub fn write_object(alloc: Global, text: &str, out: &mut String) -> Result<(), Stop> {
+pub fn write_object(alloc: Global, text: &str, out: &mut Reply) -> Result<(), Stop> {
     let columns = columns(alloc, text)?;
     let object = Json::Object(object_of_columns(alloc, columns.as_slice())?);
-    Ok(out.push_str(text_of_json(alloc, &object)?.as_str())?)
+    write_json_text(alloc, &object, out)
 }
 
 /// The JSON of a value.
-pub fn write_value_as_json(alloc: Global, text: &str, out: &mut String) -> Result<(), Stop> {
+pub fn write_value_as_json(alloc: Global, text: &str, out: &mut Reply) -> Result<(), Stop> {
     let json = json_of_value(alloc, &value(alloc, text)?)?;
-    Ok(out.push_str(text_of_json(alloc, &json)?.as_str())?)
+    write_json_text(alloc, &json, out)
 }
 
 /// The text of bytes.
-pub fn write_text(alloc: Global, digits: &str, out: &mut String) -> Result<(), Stop> {
+pub fn write_text(alloc: Global, digits: &str, out: &mut Reply) -> Result<(), Stop> {
     let bytes = bytes(alloc, digits)?;
     match Text::from_bytes(alloc, bytes.as_slice()) {
-        Ok(text) => Ok(write!(out, "text {}", text.as_str())?),
-        Err(TextFault::NotUtf8) => Ok(out.push_str("not utf-8")?),
-        Err(TextFault::Memory) => Err("no memory".into()),
+        Ok(text) => {
+            out.push("text ");
+            out.push(text.as_str());
+        }
+        Err(TextFault::NotUtf8) => out.push("not utf-8"),
+        Err(TextFault::Memory) => return Err(Stop),
     }
+    Ok(())
 }
 
 /// The bytes of a text, and whether it equals its copy and another one.
-pub fn write_kept(alloc: Global, texts: &str, out: &mut String) -> Result<(), Stop> {
+pub fn write_kept(alloc: Global, texts: &str, out: &mut Reply) -> Result<(), Stop> {
     let (text, other) = cut(texts);
     let kept = Text::from_string(String::from_str(alloc, text)?);
     let copy = kept.copy(alloc)?;
     let other = Text::from_str(alloc, other)?;
     let (same, equal) = (kept.equals(&copy), kept.equals(&other));
-    Ok(write!(out, "{:?} {same} {equal}", kept.bytes())?)
+    out.debug(&kept.bytes());
+    out.push(if same { " true" } else { " false" });
+    out.push(if equal { " true" } else { " false" });
+    Ok(())
 }
 
 /// Numbers that were put into a list.
-pub fn write_items(alloc: Global, words: &str, out: &mut String) -> Result<(), Stop> {
+pub fn write_items(alloc: Global, words: &str, out: &mut Reply) -> Result<(), Stop> {
     let mut items = Items::new(alloc);
     'words: for word in words.split(' ') {
         items.push(signed_number_in(word)?)?;
     }
-    Ok(write!(out, "{:?}", items.as_slice())?)
+    out.debug(&items.as_slice());
+    Ok(())
 }
 
 /// A value that was put into a box: as it lies there, and taken out.
-pub fn write_boxed(alloc: Global, text: &str, out: &mut String) -> Result<(), Stop> {
+pub fn write_boxed(alloc: Global, text: &str, out: &mut Reply) -> Result<(), Stop> {
     let boxed = Boxed::new(alloc, value(alloc, text)?)?;
-    write_value(out, boxed.get())?;
-    out.push_str(" ")?;
-    write_value(out, &boxed.into_inner())
+    write_value(out, boxed.get());
+    out.push(" ");
+    write_value(out, &boxed.into_inner());
+    Ok(())
 }
 
 /// Calls the laws, which do nothing.

@@ -4,7 +4,7 @@ use case_words::Stop;
 use ps_client::{ClientFault, Differing, Event, Why};
 use ps_lines::LineFault;
 
-fn write_why(why: Why, out: &mut String) -> Result<(), Stop> {
+fn write_why(why: Why, out: &mut Reply) -> Result<(), Stop> {
     match why {
         Why::Queue { length } => write!(out, "held queue {length}")?,
         Why::Pending => out.push_str("held pending")?,
@@ -13,7 +13,7 @@ fn write_why(why: Why, out: &mut String) -> Result<(), Stop> {
     Ok(())
 }
 
-fn write_differing(buckets: &[Differing], out: &mut String) -> Result<(), Stop> {
+fn write_differing(buckets: &[Differing], out: &mut Reply) -> Result<(), Stop> {
     out.push_str("refused")?;
     'buckets: for differing in buckets {
         write!(
@@ -28,7 +28,7 @@ fn write_differing(buckets: &[Differing], out: &mut String) -> Result<(), Stop> 
 }
 
 /// Writes an event.
-pub fn write_event(event: &Event, out: &mut String) -> Result<(), Stop> {
+pub fn write_event(event: &Event, out: &mut Reply) -> Result<(), Stop> {
     match event {
         Event::Nothing => out.push_str("nothing")?,
         Event::Applied { op } => write!(out, "applied {}", op.0)?,
@@ -49,7 +49,7 @@ fn line_fault(fault: LineFault) -> &'static str {
 }
 
 /// Writes a fault.
-pub fn write_fault(fault: ClientFault, out: &mut String) -> Result<(), Stop> {
+pub fn write_fault(fault: ClientFault, out: &mut Reply) -> Result<(), Stop> {
     match fault {
         ClientFault::OutOfOrder => out.push_str("out of order")?,
         ClientFault::BadLine { fault } => out.push_str(line_fault(fault))?,
@@ -62,7 +62,7 @@ pub fn write_fault(fault: ClientFault, out: &mut String) -> Result<(), Stop> {
 }
 
 /// Writes `ok` or the fault.
-pub fn write_done(done: Result<(), ClientFault>, out: &mut String) -> Result<(), Stop> {
+pub fn write_done(done: Result<(), ClientFault>, out: &mut Reply) -> Result<(), Stop> {
     match done {
         Ok(()) => Ok(out.push_str("ok")?),
         Err(fault) => write_fault(fault, out),

@@ -12,7 +12,7 @@ fn write_locally(
     alloc: Global,
     client: &mut Client<MemoryKeeper>,
     change: &str,
-    out: &mut String,
+    out: &mut Reply,
 ) -> Result<(), Stop> {
     match read_change(alloc, change.as_bytes()) {
         Ok(change) => write_done(client.write_local(alloc, change), out),
@@ -23,7 +23,7 @@ fn write_locally(
 fn write_upload(
     alloc: Global,
     client: &Client<MemoryKeeper>,
-    out: &mut String,
+    out: &mut Reply,
 ) -> Result<(), Stop> {
     match client.upload_next(alloc)? {
         Some(body) => Ok(out.push_str(str::from_utf8(body.as_slice())?)?),
@@ -35,7 +35,7 @@ fn write_number(
     alloc: Global,
     client: &mut Client<MemoryKeeper>,
     number: &str,
-    out: &mut String,
+    out: &mut Reply,
 ) -> Result<(), Stop> {
     let number = number_in(number)?;
     if number > GREATEST {
@@ -50,7 +50,7 @@ pub fn answer(
     client: &mut Client<MemoryKeeper>,
     word: &str,
     rest: &str,
-    out: &mut String,
+    out: &mut Reply,
 ) -> Result<bool, Stop> {
     match word {
         "local" => write_locally(alloc, client, rest, out)?,

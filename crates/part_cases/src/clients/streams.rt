@@ -10,7 +10,7 @@ use std::alloc::Global;
 fn write_request(
     alloc: Global,
     client: &mut Client<MemoryKeeper>,
-    out: &mut String,
+    out: &mut Reply,
 ) -> Result<(), Stop> {
     let body = client.request(alloc)?;
     let bytes = write_body(alloc, &body)?;
@@ -22,7 +22,7 @@ fn write_taken(
     alloc: Global,
     client: &mut Client<MemoryKeeper>,
     line: &str,
-    out: &mut String,
+    out: &mut Reply,
 ) -> Result<(), Stop> {
     match client.take_line(alloc, line.as_bytes()) {
         Ok(event) => write_event(&event, out),
@@ -30,7 +30,7 @@ fn write_taken(
     }
 }
 
-fn write_row(row: &Shown, out: &mut String) -> Result<(), Stop> {
+fn write_row(row: &Shown, out: &mut Reply) -> Result<(), Stop> {
     write!(
         out,
         "; {} {} {}",
@@ -41,7 +41,7 @@ fn write_row(row: &Shown, out: &mut String) -> Result<(), Stop> {
     Ok(())
 }
 
-fn write_rows(alloc: Global, client: &Client<MemoryKeeper>, out: &mut String) -> Result<(), Stop> {
+fn write_rows(alloc: Global, client: &Client<MemoryKeeper>, out: &mut Reply) -> Result<(), Stop> {
     let rows = client.rows(alloc)?;
     write!(out, "rows {}", rows.len())?;
     'rows: for row in rows.as_slice() {
@@ -56,7 +56,7 @@ pub fn answer(
     client: &mut Client<MemoryKeeper>,
     word: &str,
     rest: &str,
-    out: &mut String,
+    out: &mut Reply,
 ) -> Result<bool, Stop> {
     match word {
         "request" => write_request(alloc, client, out)?,

@@ -84,7 +84,7 @@ fn differences(alloc: Global, log: &BucketLog) -> Result<(u64, u64), Stop> {
 }
 
 /// Compacts so many lists by chance at each level, and each again after it was compacted and grew.
-pub fn write_lists(alloc: Global, words: &str, out: &mut String) -> Result<(), Stop> {
+pub fn write_lists(alloc: Global, words: &str, out: &mut Reply) -> Result<(), Stop> {
     let (count, seed) = cut(words);
     let mut chance = Chance {
         state: number_in(seed)?,

@@ -8,7 +8,7 @@ use ps_data::OpId;
 use std::alloc::Global;
 
 /// The numbers of a report.
-pub fn write_report(out: &mut String, report: &Report) -> Result<(), Stop> {
+pub fn write_report(out: &mut Reply, report: &Report) -> Result<(), Stop> {
     write!(out, "moved {} cleared {}", report.moved, report.cleared)?;
     Ok(write!(out, " before {} after {}", report.before, report.after)?)
 }
@@ -35,7 +35,7 @@ fn write_compacted(
     alloc: Global,
     log: &mut BucketLog,
     level: u64,
-    out: &mut String,
+    out: &mut Reply,
 ) -> Result<(), Stop> {
     let report = compact(alloc, log, OpId(level))?;
     write_report(out, &report)?;
@@ -44,7 +44,7 @@ fn write_compacted(
 }
 
 /// What each compaction reports, and the log after it.
-pub fn write_log(alloc: Global, events: &str, out: &mut String) -> Result<(), Stop> {
+pub fn write_log(alloc: Global, events: &str, out: &mut Reply) -> Result<(), Stop> {
     let mut log = BucketLog::new(alloc);
     'events: for event in events.split(';') {
         let (word, words) = cut(event);

@@ -96,7 +96,7 @@ pub fn log_of(alloc: Global, ops: Items<Op>) -> Result<BucketLog, Stop> {
     Ok(log)
 }
 
-fn write_op(out: &mut String, op: &Op) -> Result<(), Stop> {
+fn write_op(out: &mut Reply, op: &Op) -> Result<(), Stop> {
     let written = match op {
         Op::Put {
             id,
@@ -120,7 +120,7 @@ fn write_op(out: &mut String, op: &Op) -> Result<(), Stop> {
 }
 
 /// The texts of operations.
-pub fn write_ops(out: &mut String, ops: &[Op]) -> Result<(), Stop> {
+pub fn write_ops(out: &mut Reply, ops: &[Op]) -> Result<(), Stop> {
     'ops: for op in ops {
         write_op(out, op)?;
     }

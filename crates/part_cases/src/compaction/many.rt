@@ -19,7 +19,7 @@ fn puts(alloc: Global, count: u64, rows: u64) -> Result<Items<Op>, Stop> {
 }
 
 /// What the compaction of so many PUTs of so many rows reports.
-pub fn write_many(alloc: Global, words: &str, out: &mut String) -> Result<(), Stop> {
+pub fn write_many(alloc: Global, words: &str, out: &mut Reply) -> Result<(), Stop> {
     let (count, rows) = cut(words);
     let count = number_in(count)?;
     let mut log = log_of(alloc, puts(alloc, count, number_in(rows)?)?)?;

@@ -21,7 +21,7 @@ pub fn rewritten_body(alloc: Global, bytes: &[u8]) -> Result<String, Memory> {
     }
 }
 
-fn show_body(out: &mut String, body: &StreamBody) -> Result<(), AllocError> {
+fn show_body(out: &mut Reply, body: &StreamBody) -> Result<(), AllocError> {
     match &body.client {
         Some(client) => write!(out, "client {}", client.as_str())?,
         None => out.push_str("no client")?,
@@ -30,7 +30,7 @@ fn show_body(out: &mut String, body: &StreamBody) -> Result<(), AllocError> {
     write!(out, "; {}", body.parameters.as_str())
 }
 
-fn show_positions(out: &mut String, positions: &[Known]) -> Result<(), AllocError> {
+fn show_positions(out: &mut Reply, positions: &[Known]) -> Result<(), AllocError> {
     'positions: for known in positions {
         write!(out, "; {} {}", known.bucket.as_str(), known.after.0)?;
     }

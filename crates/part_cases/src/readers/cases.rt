@@ -15,7 +15,7 @@ use std::alloc::Global;
 pub fn push_answer(
     alloc: Global,
     asking: &mut Asking,
-    out: &mut String,
+    out: &mut Reply,
     line: &str,
 ) -> Result<(), Memory> {
     if line.is_empty() || line.as_bytes().starts_with(b"#") {

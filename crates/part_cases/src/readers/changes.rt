@@ -51,12 +51,12 @@ pub fn change(alloc: Global, bytes: &[u8]) -> Result<String, Memory> {
 }
 
 // Its position, and each change.
-fn show_transaction(out: &mut String, transaction: &Transaction) -> Result<(), AllocError> {
+fn show_transaction(out: &mut Reply, transaction: &Transaction) -> Result<(), AllocError> {
     write!(out, "{}", transaction.position.0)?;
     show_changes(out, transaction.changes.as_slice())
 }
 
-fn show_changes(out: &mut String, changes: &[Change]) -> Result<(), AllocError> {
+fn show_changes(out: &mut Reply, changes: &[Change]) -> Result<(), AllocError> {
     'changes: for change in changes {
         show_change(out, change)?;
     }
@@ -64,7 +64,7 @@ fn show_changes(out: &mut String, changes: &[Change]) -> Result<(), AllocError> 
 }
 
 /// A change: its table, its id and the columns of its row.
-pub fn show_change(out: &mut String, change: &Change) -> Result<(), AllocError> {
+pub fn show_change(out: &mut Reply, change: &Change) -> Result<(), AllocError> {
     let (table, id) = (change.table.as_str(), change.id.as_str());
     match &change.row {
         Some(row) => {
@@ -75,14 +75,14 @@ pub fn show_change(out: &mut String, change: &Change) -> Result<(), AllocError> 
     }
 }
 
-fn show_row(out: &mut String, row: &Row) -> Result<(), AllocError> {
+fn show_row(out: &mut Reply, row: &Row) -> Result<(), AllocError> {
     'columns: for column in row.columns() {
         show_column(out, column)?;
     }
     Ok(())
 }
 
-fn show_column(out: &mut String, column: &Column) -> Result<(), AllocError> {
+fn show_column(out: &mut Reply, column: &Column) -> Result<(), AllocError> {
     let name = column.name.as_str();
     match &column.value {
         Value::Null => write!(out, " {name}=null"),

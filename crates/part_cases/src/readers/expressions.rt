@@ -4,7 +4,7 @@ use std::alloc::AllocError;
 
 /// An expression, with brackets round all that has parts.
 #[cycle(showing)]
-pub fn show(out: &mut String, expr: &Expr) -> Result<(), AllocError> {
+pub fn show(out: &mut Reply, expr: &Expr) -> Result<(), AllocError> {
     match expr {
         Expr::Call {
             function,
@@ -42,7 +42,7 @@ pub fn show(out: &mut String, expr: &Expr) -> Result<(), AllocError> {
 }
 
 // One that has no parts.
-fn show_leaf(out: &mut String, expr: &Expr) -> Result<(), AllocError> {
+fn show_leaf(out: &mut Reply, expr: &Expr) -> Result<(), AllocError> {
     match expr {
         Expr::Number(number) => write!(out, "{number}"),
         Expr::Text(text) => write!(out, "'{}'", text.as_str()),
@@ -57,14 +57,14 @@ fn show_leaf(out: &mut String, expr: &Expr) -> Result<(), AllocError> {
 }
 
 #[cycle(showing)]
-fn show_within(out: &mut String, before: &str, expr: &Expr) -> Result<(), AllocError> {
+fn show_within(out: &mut Reply, before: &str, expr: &Expr) -> Result<(), AllocError> {
     out.push_str(before)?;
     show(out, expr)?;
     out.push(')')
 }
 
 /// An expression or `-`.
-pub fn show_condition(out: &mut String, condition: &Option<Expr>) -> Result<(), AllocError> {
+pub fn show_condition(out: &mut Reply, condition: &Option<Expr>) -> Result<(), AllocError> {
     match condition {
         Some(expr) => show(out, expr),
         None => out.push('-'),
@@ -72,7 +72,7 @@ pub fn show_condition(out: &mut String, condition: &Option<Expr>) -> Result<(), 
 }
 
 /// The fault of a query, with its place.
-pub fn show_fault(out: &mut String, fault: &SqlFault) -> Result<(), AllocError> {
+pub fn show_fault(out: &mut Reply, fault: &SqlFault) -> Result<(), AllocError> {
     match fault {
         SqlFault::BadToken { at } => write!(out, "token {at}"),
         SqlFault::Unexpected { at } => write!(out, "unexpected {at}"),

@@ -13,7 +13,7 @@ pub fn line(alloc: Global, bytes: &[u8]) -> Result<String, Memory> {
     Ok(out)
 }
 
-fn show_line(out: &mut String, line: &Line) -> Result<(), AllocError> {
+fn show_line(out: &mut Reply, line: &Line) -> Result<(), AllocError> {
     match line {
         Line::Checkpoint {
             last_op,
@@ -54,14 +54,14 @@ fn show_line(out: &mut String, line: &Line) -> Result<(), AllocError> {
     }
 }
 
-fn show_removed(out: &mut String, removed: &[Text]) -> Result<(), AllocError> {
+fn show_removed(out: &mut Reply, removed: &[Text]) -> Result<(), AllocError> {
     'removed: for bucket in removed {
         write!(out, "; removed {}", bucket.as_str())?;
     }
     Ok(())
 }
 
-fn show_entries(out: &mut String, entries: &[Entry]) -> Result<(), AllocError> {
+fn show_entries(out: &mut Reply, entries: &[Entry]) -> Result<(), AllocError> {
     'entries: for entry in entries {
         let (count, priority) = (entry.count, entry.priority);
         write!(
@@ -74,14 +74,14 @@ fn show_entries(out: &mut String, entries: &[Entry]) -> Result<(), AllocError> {
     Ok(())
 }
 
-fn show_ops(out: &mut String, ops: &[Op]) -> Result<(), AllocError> {
+fn show_ops(out: &mut Reply, ops: &[Op]) -> Result<(), AllocError> {
     'ops: for op in ops {
         show_op(out, op)?;
     }
     Ok(())
 }
 
-fn show_op(out: &mut String, op: &Op) -> Result<(), AllocError> {
+fn show_op(out: &mut Reply, op: &Op) -> Result<(), AllocError> {
     match op {
         Op::Put {
             id,
@@ -110,7 +110,7 @@ fn show_op(out: &mut String, op: &Op) -> Result<(), AllocError> {
     }
 }
 
-fn show_key(out: &mut String, key: &Key) -> Result<(), AllocError> {
+fn show_key(out: &mut Reply, key: &Key) -> Result<(), AllocError> {
     write!(
         out,
         " {} {} {}",

@@ -26,14 +26,14 @@ pub fn data_query(alloc: Global, bytes: &[u8]) -> Result<String, Memory> {
     Ok(out)
 }
 
-fn show_data(out: &mut String, query: &DataQuery) -> Result<(), AllocError> {
+fn show_data(out: &mut Reply, query: &DataQuery) -> Result<(), AllocError> {
     write!(out, "{} ", query.star)?;
     show_outputs(out, query.outputs.as_slice())?;
     write!(out, "{} {} ", query.table.as_str(), query.kind.as_str())?;
     show_condition(out, &query.condition)
 }
 
-fn show_outputs(out: &mut String, outputs: &[Output]) -> Result<(), AllocError> {
+fn show_outputs(out: &mut Reply, outputs: &[Output]) -> Result<(), AllocError> {
     'outputs: for output in outputs {
         write!(out, "{}=", output.name.as_str())?;
         crate::readers::expressions::show(out, &output.expr)?;
@@ -56,7 +56,7 @@ pub fn parameter_query(alloc: Global, bytes: &[u8]) -> Result<String, Memory> {
     Ok(out)
 }
 
-fn show_parameter(out: &mut String, query: &ParameterQuery) -> Result<(), AllocError> {
+fn show_parameter(out: &mut Reply, query: &ParameterQuery) -> Result<(), AllocError> {
     show_outputs(out, query.outputs.as_slice())?;
     match &query.table {
         Some(table) => write!(out, "{} ", table.as_str())?,
@@ -105,7 +105,7 @@ pub fn token_places(alloc: Global, bytes: &[u8]) -> Result<String, Memory> {
     Ok(out)
 }
 
-fn show_tokens(out: &mut String, tokens: &[Token]) -> Result<(), AllocError> {
+fn show_tokens(out: &mut Reply, tokens: &[Token]) -> Result<(), AllocError> {
     write!(out, "{}", tokens.len())?;
     'tokens: for token in tokens {
         let (kind, from, upto) = (token.kind, token.from, token.upto);

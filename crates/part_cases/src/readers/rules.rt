@@ -94,7 +94,7 @@ fn first_branches(rules: &Rules) -> usize {
     planned.branches.len()
 }
 
-fn show_rules(out: &mut String, rules: &Rules) -> Result<(), AllocError> {
+fn show_rules(out: &mut Reply, rules: &Rules) -> Result<(), AllocError> {
     'definitions: for definition in rules.definitions() {
         show_definition(out, definition)?;
     }
@@ -104,7 +104,7 @@ fn show_rules(out: &mut String, rules: &Rules) -> Result<(), AllocError> {
     Ok(())
 }
 
-fn show_warning(out: &mut String, warning: &Warning) -> Result<(), AllocError> {
+fn show_warning(out: &mut Reply, warning: &Warning) -> Result<(), AllocError> {
     let kind = match warning.kind {
         WarningKind::ClientParameters => "client-parameters",
         WarningKind::NoData => "no-data",
@@ -113,7 +113,7 @@ fn show_warning(out: &mut String, warning: &Warning) -> Result<(), AllocError> {
 }
 
 // A definition: its name, its parameters' names, how many parameter queries it has, and each data query.
-fn show_definition(out: &mut String, definition: &Definition) -> Result<(), AllocError> {
+fn show_definition(out: &mut Reply, definition: &Definition) -> Result<(), AllocError> {
     write!(out, "{}(", definition.name.as_str())?;
     'names: for name in definition.names.as_slice() {
         write!(out, " {}", name.as_str())?;
@@ -126,7 +126,7 @@ fn show_definition(out: &mut String, definition: &Definition) -> Result<(), Allo
 }
 
 // A data query: its number, and its branches.
-fn show_planned(out: &mut String, planned: &Planned) -> Result<(), AllocError> {
+fn show_planned(out: &mut Reply, planned: &Planned) -> Result<(), AllocError> {
     write!(out, " #{}", planned.number)?;
     'branches: for branch in planned.branches.as_slice() {
         out.push('[')?;
@@ -137,7 +137,7 @@ fn show_planned(out: &mut String, planned: &Planned) -> Result<(), AllocError> {
 }
 
 // A branch: its matches with `=` or `in`, then its other leaves behind `:`.
-fn show_branch(out: &mut String, branch: &Branch) -> Result<(), AllocError> {
+fn show_branch(out: &mut Reply, branch: &Branch) -> Result<(), AllocError> {
     'matches: for one in branch.matches.as_slice() {
         show_match(out, one)?;
     }
@@ -149,7 +149,7 @@ fn show_branch(out: &mut String, branch: &Branch) -> Result<(), AllocError> {
     Ok(())
 }
 
-fn show_match(out: &mut String, one: &Match) -> Result<(), AllocError> {
+fn show_match(out: &mut Reply, one: &Match) -> Result<(), AllocError> {
     let sign = if one.listed { " in " } else { "=" };
     write!(out, " {}{sign}", one.name.as_str())?;
     show(out, &one.other)

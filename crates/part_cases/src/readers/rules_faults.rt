@@ -4,7 +4,7 @@ use ps_yaml::YamlFault;
 use std::alloc::AllocError;
 
 /// The fault of rules: its place, its kind, and within a query the place there.
-pub fn show_fault(out: &mut String, fault: &RulesFault) -> Result<(), AllocError> {
+pub fn show_fault(out: &mut Reply, fault: &RulesFault) -> Result<(), AllocError> {
     let (line, column, kind) = match fault {
         RulesFault::Yaml(fault) => return show_yaml(out, fault),
         RulesFault::Sql {
@@ -24,7 +24,7 @@ pub fn show_fault(out: &mut String, fault: &RulesFault) -> Result<(), AllocError
     write!(out, "{line}:{column} {kind}")
 }
 
-fn show_yaml(out: &mut String, fault: &YamlFault) -> Result<(), AllocError> {
+fn show_yaml(out: &mut Reply, fault: &YamlFault) -> Result<(), AllocError> {
     let (line, column, kind) = match fault {
         YamlFault::BadIndent { line, column } => (line, column, "yaml-indent"),
         YamlFault::BadScalar { line, column } => (line, column, "yaml-scalar"),
@@ -35,7 +35,7 @@ fn show_yaml(out: &mut String, fault: &YamlFault) -> Result<(), AllocError> {
     write!(out, "{line}:{column} {kind}")
 }
 
-fn show_sql(out: &mut String, line: u32, column: u32, fault: &SqlFault) -> Result<(), AllocError> {
+fn show_sql(out: &mut Reply, line: u32, column: u32, fault: &SqlFault) -> Result<(), AllocError> {
     match fault {
         SqlFault::BadToken { at } => write!(out, "{line}:{column} sql-token {at}"),
         SqlFault::Unexpected { at } => write!(out, "{line}:{column} sql-unexpected {at}"),

@@ -32,7 +32,7 @@ pub fn pairs_of(alloc: Global, bytes: &[u8]) -> Result<String, Memory> {
 // `name=node` in braces for a map, nodes in brackets for a list, a text in quotes where it is not plain, and behind each
 // name and node `@line:column`.
 #[cycle(showing_nodes)]
-fn show(out: &mut String, node: &Node) -> Result<(), AllocError> {
+fn show(out: &mut Reply, node: &Node) -> Result<(), AllocError> {
     let (line, column) = match node {
         Node::Scalar {
             text,
@@ -73,7 +73,7 @@ fn show(out: &mut String, node: &Node) -> Result<(), AllocError> {
     write!(out, "@{line}:{column}")
 }
 
-fn show_text(out: &mut String, text: &str, is_plain: bool) -> Result<(), AllocError> {
+fn show_text(out: &mut Reply, text: &str, is_plain: bool) -> Result<(), AllocError> {
     if is_plain {
         out.push_str(text)
     } else {
@@ -81,12 +81,12 @@ fn show_text(out: &mut String, text: &str, is_plain: bool) -> Result<(), AllocEr
     }
 }
 
-fn show_name(out: &mut String, pair: &Pair) -> Result<(), AllocError> {
+fn show_name(out: &mut Reply, pair: &Pair) -> Result<(), AllocError> {
     let name = pair.name.as_str();
     write!(out, " {name}@{}:{}=", pair.line, pair.column)
 }
 
-fn show_fault(out: &mut String, fault: &YamlFault) -> Result<(), AllocError> {
+fn show_fault(out: &mut Reply, fault: &YamlFault) -> Result<(), AllocError> {
     match fault {
         YamlFault::BadIndent { line, column } => write!(out, "indent {line}:{column}"),
         YamlFault::BadScalar { line, column } => write!(out, "scalar {line}:{column}"),

@@ -22,7 +22,7 @@ fn head_of(alloc: Global, status: u64, length: Option<u64>) -> Result<Vec<u8>, S
 }
 
 /// The head of an answer with a status, and a length or `-`.
-pub fn write_answer(alloc: Global, rest: &str, out: &mut String) -> Result<(), Stop> {
+pub fn write_answer(alloc: Global, rest: &str, out: &mut Reply) -> Result<(), Stop> {
     let (status, length) = cut(rest);
     let length = if length == "-" {
         None

@@ -10,7 +10,7 @@ use std::io;
 use std::time::Duration;
 
 /// The head of a request that a reader of the system gives, and how often the source has failed.
-pub fn write_system(alloc: Global, request: &[u8], out: &mut String) -> Result<(), Stop> {
+pub fn write_system(alloc: Global, request: &[u8], out: &mut Reply) -> Result<(), Stop> {
     let mut from = StdSource::new(request);
     match read_head(alloc, &mut from) {
         Ok(head) => write_head(&head, out)?,
@@ -42,7 +42,7 @@ pub fn write_pieces(
     alloc: Global,
     most: &str,
     request: &[u8],
-    out: &mut String,
+    out: &mut Reply,
 ) -> Result<(), Stop> {
     let most = size_in(most)?;
     let mut from = StdSource::new(Pieces {
@@ -77,13 +77,13 @@ impl std::time::Clock for Unread {
 }
 
 /// What the clock gives of a system whose clocks cannot be read.
-pub fn write_unread(out: &mut String) -> Result<(), Stop> {
+pub fn write_unread(out: &mut Reply) -> Result<(), Stop> {
     write!(out, "{}", WallClock::new(Unread).now())?;
     Ok(())
 }
 
 /// In which thousand years the system's clock is.
-pub fn write_clock<R: std::time::Clock + Drop>(rt: R, out: &mut String) -> Result<(), Stop> {
+pub fn write_clock<R: std::time::Clock + Drop>(rt: R, out: &mut Reply) -> Result<(), Stop> {
     // The starts of the years 2000 and 3000.
     let now = WallClock::new(rt).now();
     if (946684800..32503680000).contains(&now) {
@@ -95,7 +95,7 @@ pub fn write_clock<R: std::time::Clock + Drop>(rt: R, out: &mut String) -> Resul
 }
 
 /// What a clock in memory gives, asked three times.
-pub fn write_moments(words: &str, out: &mut String) -> Result<(), Stop> {
+pub fn write_moments(words: &str, out: &mut Reply) -> Result<(), Stop> {
     let (start, step) = cut(words);
     let clock = MemoryClock::new(number_in(start)?, number_in(step)?);
     let first = clock.now();

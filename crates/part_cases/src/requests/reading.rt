@@ -34,7 +34,7 @@ pub fn name_of(fault: HeadFault) -> &'static str {
 }
 
 /// Writes the name of a body's fault.
-pub fn write_fault(fault: BodyFault, out: &mut String) -> Result<(), Stop> {
+pub fn write_fault(fault: BodyFault, out: &mut Reply) -> Result<(), Stop> {
     match fault {
         BodyFault::LengthRequired => out.push_str("length-required")?,
         BodyFault::BodyTooLong { length } => write!(out, "body-too-long {length}")?,
@@ -45,7 +45,7 @@ pub fn write_fault(fault: BodyFault, out: &mut String) -> Result<(), Stop> {
     Ok(())
 }
 
-fn write_authorization(value: &Option<Text>, out: &mut String) -> Result<(), Stop> {
+fn write_authorization(value: &Option<Text>, out: &mut Reply) -> Result<(), Stop> {
     match value {
         Some(value) => {
             out.push_str(" [")?;
@@ -58,7 +58,7 @@ fn write_authorization(value: &Option<Text>, out: &mut String) -> Result<(), Sto
 }
 
 /// The method, the path, the query, the authorization, the length and whether the body is chunked.
-pub fn write_head(head: &Head, out: &mut String) -> Result<(), Stop> {
+pub fn write_head(head: &Head, out: &mut Reply) -> Result<(), Stop> {
     out.push_str(head.method.as_str())?;
     out.push_str(" [")?;
     words::push_shown(head.path.bytes(), out)?;
@@ -79,7 +79,7 @@ pub fn write_head_read(
     alloc: Global,
     bytes: &[u8],
     failing: &str,
-    out: &mut String,
+    out: &mut Reply,
 ) -> Result<(), Stop> {
     let mut from = source(alloc, bytes, words::numbers(alloc, failing)?)?;
     match read_head(alloc, &mut from) {
@@ -94,7 +94,7 @@ pub fn write_body_read(
     alloc: Global,
     bytes: &[u8],
     failing: &str,
-    out: &mut String,
+    out: &mut Reply,
 ) -> Result<(), Stop> {
     let mut from = source(alloc, bytes, words::numbers(alloc, failing)?)?;
     match read_head(alloc, &mut from) {
@@ -122,7 +122,7 @@ fn is_refused(
 }
 
 /// How many of the first parts of a request are cut short, and how many are not.
-pub fn write_cuts(alloc: Global, bytes: &[u8], out: &mut String) -> Result<(), Stop> {
+pub fn write_cuts(alloc: Global, bytes: &[u8], out: &mut Reply) -> Result<(), Stop> {
     let mut short = 0u64;
     let mut other = 0u64;
     'cuts: for length in 0..bytes.len() {
@@ -137,7 +137,7 @@ pub fn write_cuts(alloc: Global, bytes: &[u8], out: &mut String) -> Result<(), S
 }
 
 /// How often a request whose source fails at one call is a read fault that takes what came before, and how often not.
-pub fn write_faults(alloc: Global, bytes: &[u8], out: &mut String) -> Result<(), Stop> {
+pub fn write_faults(alloc: Global, bytes: &[u8], out: &mut Reply) -> Result<(), Stop> {
     let mut failed = 0u64;
     let mut other = 0u64;
     'calls: for taken in 0..bytes.len() {

@@ -13,7 +13,7 @@ pub fn numbers(alloc: Global, word: &str) -> Result<Vec<u64>, Stop> {
 }
 
 /// Writes bytes as they are spelled, or how many they are where they are more than 300.
-pub fn push_shown(bytes: &[u8], out: &mut String) -> Result<(), Stop> {
+pub fn push_shown(bytes: &[u8], out: &mut Reply) -> Result<(), Stop> {
     if bytes.len() > 300 {
         write!(out, "({} bytes)", bytes.len())?;
         return Ok(());

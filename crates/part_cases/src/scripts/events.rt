@@ -9,7 +9,7 @@ use ps_sql_eval::Asker;
 use std::alloc::AllocError;
 
 /// An event: its word, and its arguments.
-pub fn show_event(out: &mut String, event: &ScriptEvent) -> Result<(), Memory> {
+pub fn show_event(out: &mut Reply, event: &ScriptEvent) -> Result<(), Memory> {
     let written = match event {
         ScriptEvent::Feed { count } => write!(out, "feed {count}"),
         ScriptEvent::Close => out.push_str("close"),
@@ -35,13 +35,13 @@ pub fn show_event(out: &mut String, event: &ScriptEvent) -> Result<(), Memory> {
     Ok(written?)
 }
 
-fn show_compaction(out: &mut String, bucket: &Text) -> Result<(), Memory> {
+fn show_compaction(out: &mut Reply, bucket: &Text) -> Result<(), Memory> {
     out.push_str("compact '")?;
     push_escaped(out, bucket.as_str())?;
     Ok(out.push_str("'")?)
 }
 
-fn show_client(out: &mut String, name: &Text, asker: &Asker) -> Result<(), Memory> {
+fn show_client(out: &mut Reply, name: &Text, asker: &Asker) -> Result<(), Memory> {
     write!(out, "client {} user ", name.as_str())?;
     push_escaped(out, asker.user.as_str())?;
     let (payload, parameters) = (asker.payload.as_str(), asker.parameters.as_str());
@@ -52,11 +52,11 @@ fn show_client(out: &mut String, name: &Text, asker: &Asker) -> Result<(), Memor
     }
 }
 
-fn show_local(out: &mut String, name: &Text, change: &Change) -> Result<(), Memory> {
+fn show_local(out: &mut Reply, name: &Text, change: &Change) -> Result<(), Memory> {
     write!(out, "local {}", name.as_str())?;
     write_change(out, change, "=null")
 }
 
-fn push_named(out: &mut String, word: &str, name: &Text) -> Result<(), AllocError> {
+fn push_named(out: &mut Reply, word: &str, name: &Text) -> Result<(), AllocError> {
     write!(out, "{word} {}", name.as_str())
 }

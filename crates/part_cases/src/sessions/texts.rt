@@ -5,11 +5,11 @@ use ps_bucket_log::Op;
 use ps_data::Text;
 use ps_lines::{Entry, Line};
 
-pub fn write_action(text: &str, out: &mut String) -> Result<(), Stop> {
+pub fn write_action(text: &str, out: &mut Reply) -> Result<(), Stop> {
     Ok(out.push_str(text)?)
 }
 
-fn write_entries(entries: &[Entry], out: &mut String) -> Result<(), Stop> {
+fn write_entries(entries: &[Entry], out: &mut Reply) -> Result<(), Stop> {
     'entries: for entry in entries {
         let name = entry.bucket.as_str();
         write!(
@@ -21,7 +21,7 @@ fn write_entries(entries: &[Entry], out: &mut String) -> Result<(), Stop> {
     Ok(())
 }
 
-fn write_names(names: &[Text], out: &mut String) -> Result<(), Stop> {
+fn write_names(names: &[Text], out: &mut Reply) -> Result<(), Stop> {
     'names: for name in names {
         out.push_str(" ")?;
         out.push_str(name.as_str())?;
@@ -29,21 +29,21 @@ fn write_names(names: &[Text], out: &mut String) -> Result<(), Stop> {
     Ok(())
 }
 
-fn write_ops(ops: &[Op], out: &mut String) -> Result<(), Stop> {
+fn write_ops(ops: &[Op], out: &mut Reply) -> Result<(), Stop> {
     'ops: for op in ops {
         write!(out, " {}:{}", op.id().0, op.sum().0)?;
     }
     Ok(())
 }
 
-fn write_number(number: Option<u64>, out: &mut String) -> Result<(), Stop> {
+fn write_number(number: Option<u64>, out: &mut Reply) -> Result<(), Stop> {
     match number {
         Some(number) => Ok(write!(out, " number {number}")?),
         None => Ok(out.push_str(" number none")?),
     }
 }
 
-pub fn write_line(line: &Line, out: &mut String) -> Result<(), Stop> {
+pub fn write_line(line: &Line, out: &mut Reply) -> Result<(), Stop> {
     match line {
         Line::Checkpoint {
             last_op,
@@ -86,7 +86,7 @@ pub fn write_line(line: &Line, out: &mut String) -> Result<(), Stop> {
 }
 
 // The line, or that there is none.
-pub fn write_answer(line: &Option<Line>, out: &mut String) -> Result<(), Stop> {
+pub fn write_answer(line: &Option<Line>, out: &mut Reply) -> Result<(), Stop> {
     match line {
         Some(line) => write_line(line, out),
         None => write_action("no line", out),
