@@ -64,12 +64,7 @@ fn read(alloc: Global, session: &mut Session, batch: Batch, out: &mut Reply) -> 
     }
 }
 
-fn read_ops(
-    alloc: Global,
-    session: &mut Session,
-    rest: &str,
-    out: &mut Reply,
-) -> Result<(), Stop> {
+fn read_ops(alloc: Global, session: &mut Session, rest: &str, out: &mut Reply) -> Result<(), Stop> {
     let (more, rest) = cut(rest, ' ');
     let (target, rest) = cut(rest, ' ');
     let ops = Items::from_vec(ops_of(alloc, rest)?);

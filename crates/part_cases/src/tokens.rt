@@ -147,12 +147,7 @@ fn write_token(
     Err("no such case".into())
 }
 
-fn answer(
-    alloc: Global,
-    keys: &mut Option<Keys>,
-    line: &str,
-    out: &mut Reply,
-) -> Result<(), Stop> {
+fn answer(alloc: Global, keys: &mut Option<Keys>, line: &str, out: &mut Reply) -> Result<(), Stop> {
     let (word, rest) = cut(line);
     if word == "mac" {
         return write_mac(alloc, rest, out);

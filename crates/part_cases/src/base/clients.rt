@@ -6,7 +6,7 @@ ghost use Rattle.ps_client_log.specs.Kept.{Kept};
 ghost use Rattle.ps_client_log.specs.Soundness.{IsSound, same_row};
 ghost use Rattle.ps_client_log.specs.Edits.{CanTake, CanMakeAll};
 
-use case_words::{Stop, number_in};
+use case_words::{Reply, Stop, number_in};
 use ps_bucket_log::{Key, Op};
 use ps_checksum::Sum;
 use ps_client_log::{
@@ -127,39 +127,32 @@ fn opened<K: Keeper + Drop>(alloc: Global, keeper: K) -> Result<ClientLog<K>, Ke
     }
 }
 
-fn add_row(out: &mut Reply, row: &Shown) -> Result<(), Memory> {
-    Ok(write!(out, " {}={}", row.id.as_str(), row.content.as_str())?)
-}
-
-fn add_rows(out: &mut Reply, rows: &[Shown]) -> Result<(), Memory> {
+fn add_rows(out: &mut Reply, rows: &[Shown]) {
     'rows: for row in rows {
-        add_row(out, row)?;
+        out.push(" ");
+        out.push(row.id.as_str());
+        out.push("=");
+        out.push(row.content.as_str());
     }
-    Ok(())
 }
 
-fn add_bucket(out: &mut Reply, name: &str, position: u64, total: u32) -> Result<(), Memory> {
-    Ok(write!(out, "{name} {position} {total};")?)
-}
-
-fn add_buckets<K: Keeper>(
-    out: &mut Reply,
-    log: &ClientLog<K>,
-    names: &[Text],
-) -> Result<(), Memory> {
+fn add_buckets<K: Keeper>(out: &mut Reply, log: &ClientLog<K>, names: &[Text]) {
     'names: for name in names {
-        add_bucket(out, name.as_str(), log.position(name).0, log.total(name).0)?;
+        out.push(name.as_str());
+        out.push(" ");
+        out.show(&log.position(name).0);
+        out.push(" ");
+        out.show(&log.total(name).0);
+        out.push(";");
     }
-    Ok(())
 }
 
 // Adds the position and the total of each bucket, and then the rows.
 fn add_told<K: Keeper>(out: &mut Reply, log: &ClientLog<K>, alloc: Global) -> Result<(), Memory> {
-    let names = log.names(alloc)?;
-    add_buckets(out, log, names.as_slice())?;
-    let rows = log.held_rows(alloc)?;
-    add_rows(out, rows.as_slice())?;
-    Ok(out.push_str("|")?)
+    add_buckets(out, log, log.names(alloc)?.as_slice());
+    add_rows(out, log.held_rows(alloc)?.as_slice());
+    out.push("|");
+    Ok(())
 }
 
 // Adds what a log tells, and then what another tells that is opened with its keeper.
@@ -321,14 +314,17 @@ fn add_edited(out: &mut Reply, alloc: Global) -> Result<(), KeepFault> {
     hold(&mut log, alloc, "b", 5, "of b")?;
     edit(&mut log, alloc)?;
     let is_aimed = *log.target() == Target::Number(7);
-    write!(out, "{is_aimed} {} ", log.shown().len())?;
+    out.push(if is_aimed { "true " } else { "false " });
+    out.show(&log.shown().len());
+    out.push(" ");
     add_told_twice(out, log, alloc)
 }
 
 // Adds what a log tells that is opened with a keeper of which the load has failed, and before it the keeper's faults.
 fn add_failed_load(out: &mut Reply, alloc: Global) -> Result<(), KeepFault> {
     let keeper = failed(alloc)?;
-    write!(out, "{} ", keeper.keep_faults())?;
+    out.show(&keeper.keep_faults());
+    out.push(" ");
     let log = opened(alloc, keeper)?;
     add_told_twice(out, log, alloc)
 }

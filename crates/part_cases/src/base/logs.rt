@@ -4,7 +4,7 @@ ghost use Rattle.std.specs.Prelude.{◌≡◌, false, IfOk};
 ghost use Rattle.ps_bucket_log.specs.Ops.{id_of, is_clear, newest};
 ghost use Rattle.ps_bucket_log.specs.Logs.{IsLog};
 
-use case_words::{Stop, cut, number_in, size_in};
+use case_words::{Reply, Stop, cut, number_in, size_in};
 use ps_bucket_log::uncounted::{count_upto, newest_upto, read, sum_upto};
 use ps_bucket_log::{
     Batch, BucketLog, Key, Log, Op, batches_are_the_log, batches_keep_readers_honest,
@@ -68,62 +68,99 @@ fn compacted_ops(alloc: Global) -> Result<Items<Op>, Stop>
     Ok(ops)
 }
 
-fn write_id(out: &mut Reply, id: Option<OpId>) -> Result<(), Stop> {
+fn write_id(out: &mut Reply, id: Option<OpId>) {
     match id {
-        Some(id) => Ok(write!(out, " {}", id.0)?),
-        None => Ok(out.push_str(" none")?),
+        Some(id) => write_number(out, id.0),
+        None => out.push(" none"),
     }
+}
+
+fn write_word(out: &mut Reply, word: &str) {
+    out.push(" ");
+    out.push(word);
+}
+
+fn write_number(out: &mut Reply, number: u64) {
+    out.push(" ");
+    out.show(&number);
 }
 
 // How many operations a batch has, whether there are more, their target, and the id of a CLEAR that is passed.
-fn write_batch(out: &mut Reply, batch: &Batch) -> Result<(), Stop> {
-    write!(out, "{} more {} target", batch.ops.len(), batch.has_more)?;
-    write_id(out, batch.target)?;
-    out.push_str(" passed")?;
-    write_id(out, batch.passed)
+fn write_batch(out: &mut Reply, batch: &Batch) {
+    out.show(&batch.ops.len());
+    out.push(if batch.has_more {
+        " more true target"
+    } else {
+        " more false target"
+    });
+    write_id(out, batch.target);
+    out.push(" passed");
+    write_id(out, batch.passed);
 }
 
-fn write_op(out: &mut Reply, op: &Op) -> Result<(), Stop> {
-    let written = match op {
-        Op::Put {
-            id,
-            key,
-            content,
-            sum,
-        } => {
-            write_key(out, id.0, key)?;
-            write!(out, " {} {};", content.as_str(), sum.0)
-        }
-        Op::Remove { id, key, sum } => {
-            write!(out, "remove {} {} {};", id.0, key.id.as_str(), sum.0)
-        }
-        Op::Move { id, sum, target } => write!(out, "move {} {} {};", id.0, sum.0, target.0),
-        Op::Clear { id, sum, target } => {
-            write!(out, "clear {} {}", id.0, sum.0)?;
-            write_id(out, *target)?;
-            out.push(';')
-        }
-    };
-    Ok(written?)
-}
-
-// The id and the key of a PUT.
-fn write_key(out: &mut Reply, id: u64, key: &Key) -> Result<(), Stop> {
-    let (kind, row, subkey) = (key.kind.as_str(), key.id.as_str(), key.subkey.as_str());
-    Ok(write!(out, "put {id} {kind} {row} {subkey}")?)
-}
-
-fn write_ops(out: &mut Reply, ops: &[Op]) -> Result<(), Stop> {
-    'ops: for op in ops {
-        write_op(out, op)?;
+fn kind_of(op: &Op) -> &'static str {
+    match op {
+        Op::Put { .. } => "put",
+        Op::Remove { .. } => "remove",
+        Op::Move { .. } => "move",
+        Op::Clear { .. } => "clear",
     }
-    Ok(())
+}
+
+// The kind and the id, what is the kind's own, and the sum; behind that of a MOVE and a CLEAR the target.
+fn write_op(out: &mut Reply, op: &Op) {
+    out.push(kind_of(op));
+    write_number(out, op.id().0);
+    match op {
+        Op::Put { key, content, .. } => {
+            write_key(out, key);
+            write_word(out, content.as_str());
+        }
+        Op::Remove { key, .. } => write_word(out, key.id.as_str()),
+        Op::Move { .. } | Op::Clear { .. } => {}
+    }
+    write_number(out, u64::from(op.sum().0));
+    match op {
+        Op::Move { target, .. } => write_number(out, target.0),
+        Op::Clear { target, .. } => write_id(out, *target),
+        Op::Put { .. } | Op::Remove { .. } => {}
+    }
+    out.push(";");
+}
+
+fn write_key(out: &mut Reply, key: &Key) {
+    write_word(out, key.kind.as_str());
+    write_word(out, key.id.as_str());
+    write_word(out, key.subkey.as_str());
+}
+
+fn write_ops(out: &mut Reply, ops: &[Op]) {
+    'ops: for op in ops {
+        write_op(out, op);
+    }
 }
 
 fn write_read<L: Log>(alloc: Global, log: &L, words: &str, out: &mut Reply) -> Result<(), Stop> {
     let (after, upto) = cut(words);
     let batch = read(alloc, log, OpId(number_in(after)?), OpId(number_in(upto)?))?;
-    write_batch(out, &batch)
+    write_batch(out, &batch);
+    Ok(())
+}
+
+fn write_all<L: Log>(alloc: Global, log: &L, out: &mut Reply) -> Result<(), Stop> {
+    write_ops(out, log.ops(alloc)?.as_slice());
+    Ok(())
+}
+
+// What a log answers to a question about its operations up to an id.
+fn write_upto<L: Log>(log: &L, question: &str, upto: OpId, out: &mut Reply) -> Result<(), Stop> {
+    match question {
+        "count" => out.show(&count_upto(log, upto)),
+        "newest" => out.show(&newest_upto(log, upto).0),
+        "sum" => out.show(&sum_upto(log, upto).0),
+        _ => return Err(Stop),
+    }
+    Ok(())
 }
 
 // What a log answers to a question.
@@ -131,11 +168,8 @@ fn write_answer<L: Log>(alloc: Global, log: &L, words: &str, out: &mut Reply) ->
     let (question, words) = cut(words);
     match question {
         "read" => write_read(alloc, log, words, out),
-        "count" => Ok(write!(out, "{}", count_upto(log, OpId(number_in(words)?)))?),
-        "newest" => Ok(write!(out, "{}", newest_upto(log, OpId(number_in(words)?)).0)?),
-        "sum" => Ok(write!(out, "{}", sum_upto(log, OpId(number_in(words)?)).0)?),
-        "ops" => write_ops(out, log.ops(alloc)?.as_slice()),
-        _ => Err("no question".into()),
+        "ops" => write_all(alloc, log, out),
+        _ => write_upto(log, question, OpId(number_in(words)?), out),
     }
 }
 
@@ -171,7 +205,10 @@ pub fn write_copies(alloc: Global, ids: &str, out: &mut Reply) -> Result<(), Sto
     let (id, other) = cut(ids);
     let same_op = is_copied(alloc)?;
     let (same_key, equal) = are_equal(alloc, &key(alloc, id)?, &key(alloc, other)?)?;
-    Ok(write!(out, "{same_op} {same_key} {equal}")?)
+    out.show(&same_op);
+    out.push(if same_key { " true" } else { " false" });
+    out.push(if equal { " true" } else { " false" });
+    Ok(())
 }
 
 /// Calls the laws, which do nothing.

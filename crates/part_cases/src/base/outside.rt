@@ -1,7 +1,7 @@
 //! Files and sinks, in memory and in the system.
 
 use crate::base::words::numbers;
-use case_words::{Stop, cut, number_in, size_in};
+use case_words::{Reply, Stop, cut, number_in, size_in};
 use ps_checksum::first_four;
 use ps_data::{Items, Text};
 use ps_io::{
@@ -23,11 +23,22 @@ fn three_files(alloc: Global) -> Result<Items<MemoryFile>, Stop> {
 
 // What was read, in whole where it is short; else how many bytes it has and the first four of its SHA-256.
 fn write_content(out: &mut Reply, content: &[u8]) -> Result<(), Stop> {
+    out.push(" ok ");
     if content.len() < 10 {
-        Ok(write!(out, " ok {}", str::from_utf8(content)?)?)
+        out.push(str::from_utf8(content)?);
     } else {
-        Ok(write!(out, " ok {} bytes {}", content.len(), first_four(content).0)?)
+        out.show(&content.len());
+        out.push(" bytes ");
+        out.show(&first_four(content).0);
     }
+    Ok(())
+}
+
+// How many faults there were by then.
+fn write_faults(out: &mut Reply, faults: u64) {
+    out.push(" ");
+    out.show(&faults);
+    out.push(";");
 }
 
 // Reads a file within a limit: the answer, and how many faults there were by then.
@@ -40,11 +51,15 @@ fn write_read<F: Files>(
 ) -> Result<(), Stop> {
     match files.read(alloc, &Text::from_str(alloc, name)?, limit) {
         Ok(content) => write_content(out, content.as_slice())?,
-        Err(FileFault::Failed) => out.push_str(" failed")?,
-        Err(FileFault::TooLong { seen }) => write!(out, " long {seen}")?,
-        Err(FileFault::Memory) => return Err("no memory".into()),
+        Err(FileFault::Failed) => out.push(" failed"),
+        Err(FileFault::TooLong { seen }) => {
+            out.push(" long ");
+            out.show(&seen);
+        }
+        Err(FileFault::Memory) => return Err(Stop),
     }
-    Ok(write!(out, " {};", files.file_faults())?)
+    write_faults(out, files.file_faults());
+    Ok(())
 }
 
 // Reads the files that words name, each within the limit behind its name.
@@ -54,7 +69,8 @@ fn write_reads<F: Files>(
     words: &str,
     out: &mut Reply,
 ) -> Result<(), Stop> {
-    write!(out, "{};", files.file_faults())?;
+    out.show(&files.file_faults());
+    out.push(";");
     let mut name = None;
     'words: for word in words.split(' ') {
         match name.take() {
@@ -86,17 +102,34 @@ pub fn write_of_disk(rt: &HostRuntime, words: &str, out: &mut Reply) -> Result<(
 }
 
 // Writes a piece: the answer, and how many faults there were by then. The piece `-` is empty.
-fn write_piece<S: Sink>(sink: &mut S, piece: &str, out: &mut Reply) -> Result<(), Stop> {
+fn write_piece<S: Sink>(sink: &mut S, piece: &str, out: &mut Reply) {
     let piece = if piece == "-" { "" } else { piece };
-    let answer = match sink.write(piece.as_bytes()) {
-        Ok(()) => "ok",
-        Err(_) => "failed",
-    };
-    Ok(write!(out, " {answer} {}", sink.write_faults())?)
+    out.push(match sink.write(piece.as_bytes()) {
+        Ok(()) => " ok ",
+        Err(_) => " failed ",
+    });
+    out.show(&sink.write_faults());
 }
 
 fn write_taken(out: &mut Reply, taken: &[u8]) -> Result<(), Stop> {
-    Ok(write!(out, " {};", str::from_utf8(taken)?)?)
+    out.push(" ");
+    out.push(str::from_utf8(taken)?);
+    out.push(";");
+    Ok(())
+}
+
+// What a sink takes of pieces.
+fn write_pieces(sink: &mut MemorySink, pieces: &str, out: &mut Reply) -> Result<(), Stop> {
+    out.show(&sink.write_faults());
+    write_taken(out, sink.bytes())?;
+    'pieces: for piece in pieces.split(' ') {
+        write_piece(sink, piece, out);
+        write_taken(out, sink.bytes())?;
+    }
+    sink.end();
+    out.push(" end ");
+    out.show(&sink.write_faults());
+    write_taken(out, sink.bytes())
 }
 
 /// What a sink in memory takes of pieces, with so much room, of which the calls of some numbers fail.
@@ -105,15 +138,7 @@ pub fn write_of_sink(alloc: Global, words: &str, out: &mut Reply) -> Result<(), 
     let (failing, words) = cut(words);
     let failing = Items::from_vec(numbers(alloc, failing)?);
     let mut sink = MemorySink::new(alloc, size_in(room)?, failing)?;
-    write!(out, "{}", sink.write_faults())?;
-    write_taken(out, sink.bytes())?;
-    'pieces: for piece in words.split(' ') {
-        write_piece(&mut sink, piece, out)?;
-        write_taken(out, sink.bytes())?;
-    }
-    sink.end();
-    write!(out, " end {}", sink.write_faults())?;
-    write_taken(out, sink.bytes())
+    write_pieces(&mut sink, words, out)
 }
 
 // A writer that takes two bytes at a time, and fails at its fifth call of `write` and its second of `flush`.
@@ -151,10 +176,11 @@ pub fn write_of_stream(alloc: Global, words: &str, out: &mut Reply) -> Result<()
         flushes: 0,
     };
     let mut sink = StdSink::new(&mut writer);
-    write!(out, "{};", sink.write_faults())?;
+    out.show(&sink.write_faults());
+    out.push(";");
     'pieces: for piece in words.split(' ') {
-        write_piece(&mut sink, piece, out)?;
-        out.push_str(";")?;
+        write_piece(&mut sink, piece, out);
+        out.push(";");
     }
     sink.end();
     drop(sink);

@@ -20,11 +20,7 @@ fn write_locally(
     }
 }
 
-fn write_upload(
-    alloc: Global,
-    client: &Client<MemoryKeeper>,
-    out: &mut Reply,
-) -> Result<(), Stop> {
+fn write_upload(alloc: Global, client: &Client<MemoryKeeper>, out: &mut Reply) -> Result<(), Stop> {
     match client.upload_next(alloc)? {
         Some(body) => Ok(out.push_str(str::from_utf8(body.as_slice())?)?),
         None => Ok(out.push_str("none")?),

@@ -2,7 +2,7 @@
 
 use crate::compaction::logs::{log_of, put, remove};
 use crate::compaction::plain::{compacted, is_told};
-use case_words::{Stop, cut, number_in};
+use case_words::{Reply, Stop, cut, number_in};
 use ps_bucket_log::uncounted::newest_upto;
 use ps_bucket_log::{BucketLog, Log, Op};
 use ps_compact::compact;
@@ -69,37 +69,46 @@ fn agrees(alloc: Global, log: &BucketLog, level: u64) -> Result<bool, Stop> {
     Ok(same && is_told(&plain, before, &report))
 }
 
-// At how many levels a log, compacted, is not what the rule says; and how many were tried.
-fn differences(alloc: Global, log: &BucketLog) -> Result<(u64, u64), Stop> {
+// How many levels were tried, and at how many a log, compacted, is not what the rule says.
+#[derive(Drop)]
+struct Counts {
+    tried: u64,
+    wrong: u64,
+}
+
+// Compacts a log at each level.
+fn count(alloc: Global, log: &BucketLog, counts: &mut Counts) -> Result<(), Stop> {
     let newest = newest_upto(log, OpId(u64::MAX)).0;
-    let mut wrong: u64 = 0;
-    let mut tried: u64 = 0;
     'levels: for level in 0..=newest {
         if !agrees(alloc, log, level)? {
-            wrong = wrong.wrapping_add(1);
+            counts.wrong = counts.wrong.wrapping_add(1);
         }
-        tried = tried.wrapping_add(1);
+        counts.tried = counts.tried.wrapping_add(1);
     }
-    Ok((wrong, tried))
+    Ok(())
+}
+
+// Compacts a list by chance at each level, and again after it was compacted and grew.
+fn count_list(alloc: Global, chance: &mut Chance, counts: &mut Counts) -> Result<(), Stop> {
+    let mut log = grown(alloc, chance, &BucketLog::new(alloc))?;
+    count(alloc, &log, counts)?;
+    compact(alloc, &mut log, OpId(chance.below(14)))?;
+    count(alloc, &grown(alloc, chance, &log)?, counts)
 }
 
 /// Compacts so many lists by chance at each level, and each again after it was compacted and grew.
 pub fn write_lists(alloc: Global, words: &str, out: &mut Reply) -> Result<(), Stop> {
-    let (count, seed) = cut(words);
+    let (lists, seed) = cut(words);
     let mut chance = Chance {
         state: number_in(seed)?,
     };
-    let mut wrong: u64 = 0;
-    let mut tried: u64 = 0;
-    'lists: for _ in 0..number_in(count)? {
-        let mut log = grown(alloc, &mut chance, &BucketLog::new(alloc))?;
-        let (first_wrong, first_tried) = differences(alloc, &log)?;
-        let level = chance.below(14);
-        let _report = compact(alloc, &mut log, OpId(level))?;
-        let log = grown(alloc, &mut chance, &log)?;
-        let (then_wrong, then_tried) = differences(alloc, &log)?;
-        wrong = wrong.wrapping_add(first_wrong).wrapping_add(then_wrong);
-        tried = tried.wrapping_add(first_tried).wrapping_add(then_tried);
+    let mut counts = Counts { tried: 0, wrong: 0 };
+    'lists: for _ in 0..number_in(lists)? {
+        count_list(alloc, &mut chance, &mut counts)?;
     }
-    Ok(write!(out, "tried {tried} wrong {wrong}")?)
+    out.push("tried ");
+    out.show(&counts.tried);
+    out.push(" wrong ");
+    out.show(&counts.wrong);
+    Ok(())
 }

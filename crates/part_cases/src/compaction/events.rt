@@ -1,16 +1,22 @@
 //! Events of a log, one after another: `put ID ROW SUM`, `remove ID ROW SUM` and `compact LEVEL`.
 
 use crate::compaction::logs::{log_of, put, remove, write_ops};
-use case_words::{Stop, cut, number_in};
+use case_words::{Reply, Stop, cut, number_in};
 use ps_bucket_log::{BucketLog, Log, Op};
 use ps_compact::{Report, compact};
 use ps_data::OpId;
 use std::alloc::Global;
 
 /// The numbers of a report.
-pub fn write_report(out: &mut Reply, report: &Report) -> Result<(), Stop> {
-    write!(out, "moved {} cleared {}", report.moved, report.cleared)?;
-    Ok(write!(out, " before {} after {}", report.before, report.after)?)
+pub fn write_report(out: &mut Reply, report: &Report) {
+    out.push("moved ");
+    out.show(&report.moved);
+    out.push(" cleared ");
+    out.show(&report.cleared);
+    out.push(" before ");
+    out.show(&report.before);
+    out.push(" after ");
+    out.show(&report.after);
 }
 
 fn appended(alloc: Global, log: &BucketLog, op: Op) -> Result<BucketLog, Stop> {
@@ -37,25 +43,35 @@ fn write_compacted(
     level: u64,
     out: &mut Reply,
 ) -> Result<(), Stop> {
-    let report = compact(alloc, log, OpId(level))?;
-    write_report(out, &report)?;
-    out.push_str(":")?;
-    write_ops(out, log.ops(alloc)?.as_slice())
+    if !out.is_empty() {
+        out.push(" | ");
+    }
+    write_report(out, &compact(alloc, log, OpId(level))?);
+    out.push(":");
+    write_ops(out, log.ops(alloc)?.as_slice());
+    Ok(())
+}
+
+// Does an event.
+fn write_event(
+    alloc: Global,
+    log: &mut BucketLog,
+    event: &str,
+    out: &mut Reply,
+) -> Result<(), Stop> {
+    let (word, words) = cut(event);
+    if word == "compact" {
+        return write_compacted(alloc, log, number_in(words)?, out);
+    }
+    *log = appended(alloc, log, written(alloc, word, words)?)?;
+    Ok(())
 }
 
 /// What each compaction reports, and the log after it.
 pub fn write_log(alloc: Global, events: &str, out: &mut Reply) -> Result<(), Stop> {
     let mut log = BucketLog::new(alloc);
     'events: for event in events.split(';') {
-        let (word, words) = cut(event);
-        if word == "compact" {
-            if !out.is_empty() {
-                out.push_str(" | ")?;
-            }
-            write_compacted(alloc, &mut log, number_in(words)?, out)?;
-        } else {
-            log = appended(alloc, &log, written(alloc, word, words)?)?;
-        }
+        write_event(alloc, &mut log, event, out)?;
     }
     Ok(())
 }

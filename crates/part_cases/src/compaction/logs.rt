@@ -4,7 +4,7 @@ ghost use Rattle.std.specs.Prelude.{◌≡◌, false, IsTrue};
 ghost use Rattle.ps_bucket_log.specs.Ops.{is_clear as has_reset, has_clear};
 ghost use Rattle.ps_bucket_log.specs.Logs.{IsRising, rest};
 
-use case_words::Stop;
+use case_words::{Reply, Stop};
 use ps_bucket_log::{BucketLog, Key, Log, Op};
 use ps_checksum::Sum;
 use ps_data::{Items, OpId, Text};
@@ -96,33 +96,51 @@ pub fn log_of(alloc: Global, ops: Items<Op>) -> Result<BucketLog, Stop> {
     Ok(log)
 }
 
-fn write_op(out: &mut Reply, op: &Op) -> Result<(), Stop> {
-    let written = match op {
-        Op::Put {
-            id,
-            key,
-            content,
-            sum,
-        } => {
-            let (row, content) = (key.id.as_str(), content.as_str());
-            write!(out, " put {} {row} {} {content};", id.0, sum.0)
+fn kind_of(op: &Op) -> &'static str {
+    match op {
+        Op::Put { .. } => " put ",
+        Op::Remove { .. } => " remove ",
+        Op::Move { .. } => " move ",
+        Op::Clear { .. } => " clear ",
+    }
+}
+
+fn write_target(out: &mut Reply, target: Option<OpId>) {
+    out.push(" ");
+    match target {
+        Some(target) => out.show(&target.0),
+        None => out.push("none"),
+    }
+}
+
+// The kind and the id, the row where there is one, the sum, and the content or the target.
+fn write_op(out: &mut Reply, op: &Op) {
+    out.push(kind_of(op));
+    out.show(&op.id().0);
+    match op {
+        Op::Put { key, .. } | Op::Remove { key, .. } => {
+            out.push(" ");
+            out.push(key.id.as_str());
         }
-        Op::Remove { id, key, sum } => {
-            write!(out, " remove {} {} {};", id.0, key.id.as_str(), sum.0)
+        Op::Move { .. } | Op::Clear { .. } => {}
+    }
+    out.push(" ");
+    out.show(&op.sum().0);
+    match op {
+        Op::Put { content, .. } => {
+            out.push(" ");
+            out.push(content.as_str());
         }
-        Op::Move { id, sum, target } => write!(out, " move {} {} {};", id.0, sum.0, target.0),
-        Op::Clear { id, sum, target } => match target {
-            Some(target) => write!(out, " clear {} {} {};", id.0, sum.0, target.0),
-            None => write!(out, " clear {} {} none;", id.0, sum.0),
-        },
-    };
-    Ok(written?)
+        Op::Remove { .. } => {}
+        Op::Move { target, .. } => write_target(out, Some(*target)),
+        Op::Clear { target, .. } => write_target(out, *target),
+    }
+    out.push(";");
 }
 
 /// The texts of operations.
-pub fn write_ops(out: &mut Reply, ops: &[Op]) -> Result<(), Stop> {
+pub fn write_ops(out: &mut Reply, ops: &[Op]) {
     'ops: for op in ops {
-        write_op(out, op)?;
+        write_op(out, op);
     }
-    Ok(())
 }

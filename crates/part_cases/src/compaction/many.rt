@@ -2,7 +2,7 @@
 
 use crate::compaction::events::write_report;
 use crate::compaction::logs::{log_of, put};
-use case_words::{Stop, cut, number_in};
+use case_words::{Reply, Stop, cut, number_in};
 use ps_bucket_log::Op;
 use ps_compact::compact;
 use ps_data::{Items, OpId};
@@ -23,6 +23,6 @@ pub fn write_many(alloc: Global, words: &str, out: &mut Reply) -> Result<(), Sto
     let (count, rows) = cut(words);
     let count = number_in(count)?;
     let mut log = log_of(alloc, puts(alloc, count, number_in(rows)?)?)?;
-    let report = compact(alloc, &mut log, OpId(count))?;
-    write_report(out, &report)
+    write_report(out, &compact(alloc, &mut log, OpId(count))?);
+    Ok(())
 }
