@@ -1,29 +1,43 @@
 //! Changes, as they are printed.
 
-use ps_data::{Memory, Value};
+use case_words::Reply;
+use ps_data::Value;
 use ps_rows::{Change, Row};
 
 /// What a change does, its table and its id, and the columns of its row; behind the name of a null stands `null`.
-pub fn write_change(out: &mut Reply, change: &Change, null: &str) -> Result<(), Memory> {
-    let (table, id) = (change.table.as_str(), change.id.as_str());
-    match &change.row {
-        Some(row) => {
-            write!(out, " put {table} {id}")?;
-            write_row(out, row, null)
-        }
-        None => Ok(write!(out, " delete {table} {id}")?),
+pub fn write_change(out: &mut Reply, change: &Change, null: &str) {
+    out.push(if change.row.is_some() {
+        " put "
+    } else {
+        " delete "
+    });
+    out.push(change.table.as_str());
+    out.push(" ");
+    out.push(change.id.as_str());
+    if let Some(row) = &change.row {
+        write_row(out, row, null);
     }
 }
 
-fn write_row(out: &mut Reply, row: &Row, null: &str) -> Result<(), Memory> {
+fn write_row(out: &mut Reply, row: &Row, null: &str) {
     'columns: for column in row.columns() {
-        let name = column.name.as_str();
-        let written = match &column.value {
-            Value::Null => write!(out, " {name}{null}"),
-            Value::Int(number) => write!(out, " {name}={number}"),
-            Value::Text(text) => write!(out, " {name}='{}'", text.as_str()),
-        };
-        written?;
+        out.push(" ");
+        out.push(column.name.as_str());
+        write_value(out, &column.value, null);
     }
-    Ok(())
+}
+
+fn write_value(out: &mut Reply, value: &Value, null: &str) {
+    match value {
+        Value::Null => out.push(null),
+        Value::Int(number) => {
+            out.push("=");
+            out.show(number);
+        }
+        Value::Text(text) => {
+            out.push("='");
+            out.push(text.as_str());
+            out.push("'");
+        }
+    }
 }

@@ -11,7 +11,7 @@ mod locals;
 mod streams;
 
 use crate::lines::print_line;
-use case_words::{Stop, cut, number_in};
+use case_words::{Reply, Stop, cut, number_in};
 use ps_client::Client;
 use ps_client_log::{KeepFault, MemoryKeeper};
 use ps_data::{Items, Text};
@@ -63,11 +63,11 @@ fn opened(
     match open(alloc, keeper) {
         Ok(client) => {
             let client = Some(client);
-            out.push_str("open")?;
+            out.push("open");
             Ok(client)
         }
         Err(keeper) => {
-            out.push_str("keeper failed, open")?;
+            out.push("keeper failed, open");
             reopened(alloc, keeper)
         }
     }
@@ -121,7 +121,8 @@ fn answer(
     if locals::answer(alloc, client, word, rest, out)? {
         return Ok(());
     }
-    Ok(out.push_str(line)?)
+    out.push(line);
+    Ok(())
 }
 
 fn answer_open(

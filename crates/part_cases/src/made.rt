@@ -2,23 +2,22 @@
 
 use crate::changes::write_change;
 use crate::lines::print_line;
-use case_words::Stop;
+use case_words::{Reply, Stop};
 use ps_gen::{make_input, make_rules};
 use ps_rows::Transaction;
 
-fn write_transaction(out: &mut Reply, transaction: &Transaction) -> Result<(), Stop> {
-    write!(out, "{}", transaction.position.0)?;
+fn write_transaction(out: &mut Reply, transaction: &Transaction) {
+    out.show(&transaction.position.0);
     'changes: for change in transaction.changes.as_slice() {
-        write_change(out, change, "")?;
+        write_change(out, change, "");
     }
-    Ok(())
 }
 
 // Prints so many transactions.
 fn print_made(rt: HostRuntime, count: u32, out: &mut Reply) -> Result<(), Stop> {
     let transactions = make_input(rt.alloc(), count)?;
     'transactions: for transaction in transactions.as_slice() {
-        write_transaction(out, transaction)?;
+        write_transaction(out, transaction);
         print_line(rt, out)?;
     }
     Ok(())

@@ -6,7 +6,7 @@
 ghost use Rattle.std.specs.Prelude.{◌≤◌};
 
 use crate::lines::print_line;
-use case_words::{Stop, cut, number_in};
+use case_words::{Reply, Stop, cut, number_in};
 use ps_data::{GREATEST, Position, Text};
 use ps_write_cp::{NumberFault, WriteCheckpoints};
 use std::alloc::Global;
@@ -37,25 +37,41 @@ fn words(alloc: Global, rest: &str) -> Result<(Text, Text, u64), Stop> {
     ))
 }
 
+fn write_made(made: Result<u64, NumberFault>, out: &mut Reply) {
+    match made {
+        Ok(number) => {
+            out.push("number ");
+            out.show(&number);
+        }
+        Err(NumberFault::NumberFull { last }) => {
+            out.push("full ");
+            out.show(&last);
+        }
+        Err(NumberFault::Memory) => out.push("memory"),
+    }
+}
+
 fn write_number(alloc: Global, desk: &mut Desk, rest: &str, out: &mut Reply) -> Result<(), Stop> {
     let (user, client, head) = words(alloc, rest)?;
     if head < desk.head {
-        return Err("the head falls".into());
+        return Err(Stop);
     }
     desk.head = head;
-    match desk.numbers.make(alloc, &user, &client, Position(head)) {
-        Ok(number) => write!(out, "number {number}")?,
-        Err(NumberFault::NumberFull { last }) => write!(out, "full {last}")?,
-        Err(NumberFault::Memory) => out.push_str("memory")?,
-    }
+    write_made(
+        desk.numbers.make(alloc, &user, &client, Position(head)),
+        out,
+    );
     Ok(())
 }
 
 fn write_covered(alloc: Global, desk: &Desk, rest: &str, out: &mut Reply) -> Result<(), Stop> {
     let (user, client, position) = words(alloc, rest)?;
     match desk.numbers.covered(&user, &client, Position(position)) {
-        Some(number) => write!(out, "covered {number}")?,
-        None => out.push_str("covered none")?,
+        Some(number) => {
+            out.push("covered ");
+            out.show(&number);
+        }
+        None => out.push("covered none"),
     }
     Ok(())
 }
@@ -66,11 +82,15 @@ fn answer(alloc: Global, desk: &mut Desk, line: &str, out: &mut Reply) -> Result
     match word {
         "top" => {
             *desk = fresh(alloc, number_in(rest)?);
-            Ok(out.push_str("none")?)
+            out.push("none");
+            Ok(())
         }
         "make" => write_number(alloc, desk, rest, out),
         "covered" => write_covered(alloc, desk, rest, out),
-        _ => Ok(out.push_str(line)?),
+        _ => {
+            out.push(line);
+            Ok(())
+        }
     }
 }
 

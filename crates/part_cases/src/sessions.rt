@@ -15,7 +15,7 @@ mod texts;
 ghost use Rattle.std.specs.Prelude.{◌≢◌, ◌⊎◌, [], None};
 
 use crate::lines::print_line;
-use case_words::{Stop, number_in};
+use case_words::{Reply, Stop, number_in};
 use names::names_rise;
 use ps_bucket_log::Batch;
 use ps_data::{Items, OpId, Text};
@@ -23,7 +23,7 @@ use ps_session::{Action, Session, StreamRequest};
 use ps_sql_eval::Asker;
 use readings::{cut, id_or_none, known_of, ops_of, taken_of};
 use std::alloc::Global;
-use texts::{write_action, write_answer, write_line};
+use texts::{write_answer, write_line};
 
 fn nobody(alloc: Global) -> Asker {
     Asker {
@@ -102,40 +102,60 @@ fn finish(session: &mut Session, out: &mut Reply) -> Result<(), Stop> {
     }
 }
 
-fn action(session: &Session, out: &mut Reply) -> Result<(), Stop> {
+fn write_action(session: &Session, out: &mut Reply) {
     match session.next_action() {
         Action::Read { place, after, upto } => {
-            let name = session.bucket_at(place).as_str();
-            Ok(write!(out, "read {place} {name} after {} upto {}", after.0, upto.0)?)
+            out.push("read ");
+            out.show(&place);
+            out.push(" ");
+            out.push(session.bucket_at(place).as_str());
+            out.push(" after ");
+            out.show(&after.0);
+            out.push(" upto ");
+            out.show(&upto.0);
         }
-        Action::Take => write_action("take", out),
-        Action::Complete => write_action("complete", out),
-        Action::Wait => write_action("wait", out),
+        Action::Take => out.push("take"),
+        Action::Complete => out.push("complete"),
+        Action::Wait => out.push("wait"),
     }
 }
 
-fn answer(alloc: Global, session: &mut Session, line: &str, out: &mut Reply) -> Result<(), Stop> {
+// Answers a step that changes nothing, or begins anew; false where the word is none of these.
+fn is_told(
+    alloc: Global,
+    session: &mut Session,
+    line: &str,
+    out: &mut Reply,
+) -> Result<bool, Stop> {
     let (word, rest) = cut(line, ' ');
     match word {
-        "#" => write_action(line, out),
+        "#" => out.push(line),
         "begin" => {
             *session = begin(alloc, rest)?;
-            write_action("begun", out)
+            out.push("begun");
         }
-        "action" => action(session, out),
+        "action" => write_action(session, out),
+        "drained" => out.push(if session.drained() {
+            "drained"
+        } else {
+            "not drained"
+        }),
+        _ => return Ok(false),
+    }
+    Ok(true)
+}
+
+fn answer(alloc: Global, session: &mut Session, line: &str, out: &mut Reply) -> Result<(), Stop> {
+    if is_told(alloc, session, line, out)? {
+        return Ok(());
+    }
+    let (word, rest) = cut(line, ' ');
+    match word {
         "take" => take(alloc, session, rest, out),
         "batch" => read_ops(alloc, session, rest, out),
         "passed" => read_passed(alloc, session, rest, out),
         "finish" => finish(session, out),
-        "drained" => write_action(
-            if session.drained() {
-                "drained"
-            } else {
-                "not drained"
-            },
-            out,
-        ),
-        _ => Err("no such case".into()),
+        _ => Err(Stop),
     }
 }
 

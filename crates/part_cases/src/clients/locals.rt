@@ -1,7 +1,7 @@
 //! Steps of local writes.
 
 use crate::clients::events::write_done;
-use case_words::{Stop, number_in};
+use case_words::{Reply, Stop, number_in};
 use ps_changes::read_change;
 use ps_client::Client;
 use ps_client_log::MemoryKeeper;
@@ -15,16 +15,20 @@ fn write_locally(
     out: &mut Reply,
 ) -> Result<(), Stop> {
     match read_change(alloc, change.as_bytes()) {
-        Ok(change) => write_done(client.write_local(alloc, change), out),
-        Err(_) => Err("this is no change".into()),
+        Ok(change) => {
+            write_done(client.write_local(alloc, change), out);
+            Ok(())
+        }
+        Err(_) => Err(Stop),
     }
 }
 
 fn write_upload(alloc: Global, client: &Client<MemoryKeeper>, out: &mut Reply) -> Result<(), Stop> {
     match client.upload_next(alloc)? {
-        Some(body) => Ok(out.push_str(str::from_utf8(body.as_slice())?)?),
-        None => Ok(out.push_str("none")?),
+        Some(body) => out.push(str::from_utf8(body.as_slice())?),
+        None => out.push("none"),
     }
+    Ok(())
 }
 
 fn write_number(
@@ -35,9 +39,10 @@ fn write_number(
 ) -> Result<(), Stop> {
     let number = number_in(number)?;
     if number > GREATEST {
-        return Err("the number is too great".into());
+        return Err(Stop);
     }
-    write_done(client.set_write_checkpoint(alloc, number), out)
+    write_done(client.set_write_checkpoint(alloc, number), out);
+    Ok(())
 }
 
 /// Answers a step; false where the word begins none.
@@ -51,9 +56,9 @@ pub fn answer(
     match word {
         "local" => write_locally(alloc, client, rest, out)?,
         "upload" => write_upload(alloc, client, out)?,
-        "uploaded" => write_done(client.uploaded(alloc), out)?,
+        "uploaded" => write_done(client.uploaded(alloc), out),
         "number" => write_number(alloc, client, rest, out)?,
-        "pending" => write!(out, "{}", client.pending())?,
+        "pending" => out.show(&client.pending()),
         _ => return Ok(false),
     }
     Ok(true)

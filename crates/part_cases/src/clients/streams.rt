@@ -1,7 +1,7 @@
 //! Steps of a stream.
 
 use crate::clients::events::{write_event, write_fault};
-use case_words::Stop;
+use case_words::{Reply, Stop};
 use ps_client::Client;
 use ps_client_log::{MemoryKeeper, Shown};
 use ps_lines::write_body;
@@ -14,38 +14,32 @@ fn write_request(
 ) -> Result<(), Stop> {
     let body = client.request(alloc)?;
     let bytes = write_body(alloc, &body)?;
-    let text = str::from_utf8(bytes.as_slice())?;
-    Ok(out.push_str(text)?)
+    out.push(str::from_utf8(bytes.as_slice())?);
+    Ok(())
 }
 
-fn write_taken(
-    alloc: Global,
-    client: &mut Client<MemoryKeeper>,
-    line: &str,
-    out: &mut Reply,
-) -> Result<(), Stop> {
+fn write_taken(alloc: Global, client: &mut Client<MemoryKeeper>, line: &str, out: &mut Reply) {
     match client.take_line(alloc, line.as_bytes()) {
         Ok(event) => write_event(&event, out),
         Err(fault) => write_fault(fault, out),
     }
 }
 
-fn write_row(row: &Shown, out: &mut Reply) -> Result<(), Stop> {
-    write!(
-        out,
-        "; {} {} {}",
-        row.kind.as_str(),
-        row.id.as_str(),
-        row.content.as_str()
-    )?;
-    Ok(())
+fn write_row(row: &Shown, out: &mut Reply) {
+    out.push("; ");
+    out.push(row.kind.as_str());
+    out.push(" ");
+    out.push(row.id.as_str());
+    out.push(" ");
+    out.push(row.content.as_str());
 }
 
 fn write_rows(alloc: Global, client: &Client<MemoryKeeper>, out: &mut Reply) -> Result<(), Stop> {
     let rows = client.rows(alloc)?;
-    write!(out, "rows {}", rows.len())?;
+    out.push("rows ");
+    out.show(&rows.len());
     'rows: for row in rows.as_slice() {
-        write_row(row, out)?;
+        write_row(row, out);
     }
     Ok(())
 }
@@ -60,9 +54,9 @@ pub fn answer(
 ) -> Result<bool, Stop> {
     match word {
         "request" => write_request(alloc, client, out)?,
-        "line" => write_taken(alloc, client, rest, out)?,
+        "line" => write_taken(alloc, client, rest, out),
         "rows" => write_rows(alloc, client, out)?,
-        "matches" => write!(out, "{}", client.matches())?,
+        "matches" => out.show(&client.matches()),
         _ => return Ok(false),
     }
     Ok(true)

@@ -1,45 +1,43 @@
 //! The texts of answers.
 
-use case_words::Stop;
+use case_words::{Reply, Stop};
 use ps_bucket_log::Op;
 use ps_data::Text;
 use ps_lines::{Entry, Line};
 
-pub fn write_action(text: &str, out: &mut Reply) -> Result<(), Stop> {
-    Ok(out.push_str(text)?)
+fn write_part(text: &str, number: u64, out: &mut Reply) {
+    out.push(text);
+    out.show(&number);
 }
 
-fn write_entries(entries: &[Entry], out: &mut Reply) -> Result<(), Stop> {
+fn write_entries(entries: &[Entry], out: &mut Reply) {
     'entries: for entry in entries {
-        let name = entry.bucket.as_str();
-        write!(
-            out,
-            " {name}:{}:{}:{}",
-            entry.sum.0, entry.count, entry.priority
-        )?;
+        out.push(" ");
+        out.push(entry.bucket.as_str());
+        write_part(":", u64::from(entry.sum.0), out);
+        write_part(":", entry.count, out);
+        write_part(":", u64::from(entry.priority), out);
     }
-    Ok(())
 }
 
-fn write_names(names: &[Text], out: &mut Reply) -> Result<(), Stop> {
+fn write_names(names: &[Text], out: &mut Reply) {
     'names: for name in names {
-        out.push_str(" ")?;
-        out.push_str(name.as_str())?;
+        out.push(" ");
+        out.push(name.as_str());
     }
-    Ok(())
 }
 
-fn write_ops(ops: &[Op], out: &mut Reply) -> Result<(), Stop> {
+fn write_ops(ops: &[Op], out: &mut Reply) {
     'ops: for op in ops {
-        write!(out, " {}:{}", op.id().0, op.sum().0)?;
+        write_part(" ", op.id().0, out);
+        write_part(":", u64::from(op.sum().0), out);
     }
-    Ok(())
 }
 
-fn write_number(number: Option<u64>, out: &mut Reply) -> Result<(), Stop> {
+fn write_number(number: Option<u64>, out: &mut Reply) {
     match number {
-        Some(number) => Ok(write!(out, " number {number}")?),
-        None => Ok(out.push_str(" number none")?),
+        Some(number) => write_part(" number ", number, out),
+        None => out.push(" number none"),
     }
 }
 
@@ -50,9 +48,9 @@ pub fn write_line(line: &Line, out: &mut Reply) -> Result<(), Stop> {
             number,
             buckets,
         } => {
-            write!(out, "checkpoint {}", last_op.0)?;
-            write_number(*number, out)?;
-            write_entries(buckets.as_slice(), out)
+            write_part("checkpoint ", last_op.0, out);
+            write_number(*number, out);
+            write_entries(buckets.as_slice(), out);
         }
         Line::Diff {
             last_op,
@@ -60,12 +58,12 @@ pub fn write_line(line: &Line, out: &mut Reply) -> Result<(), Stop> {
             removed,
             updated,
         } => {
-            write!(out, "diff {}", last_op.0)?;
-            write_number(*number, out)?;
-            out.push_str(" removed")?;
-            write_names(removed.as_slice(), out)?;
-            out.push_str(" updated")?;
-            write_entries(updated.as_slice(), out)
+            write_part("diff ", last_op.0, out);
+            write_number(*number, out);
+            out.push(" removed");
+            write_names(removed.as_slice(), out);
+            out.push(" updated");
+            write_entries(updated.as_slice(), out);
         }
         Line::Data {
             bucket,
@@ -74,21 +72,26 @@ pub fn write_line(line: &Line, out: &mut Reply) -> Result<(), Stop> {
             ops,
             next_after,
         } => {
-            let name = bucket.as_str();
-            let more = if *has_more { "more" } else { "last" };
-            write!(out, "data {name} after {} {more}", after.0)?;
-            write_ops(ops.as_slice(), out)?;
-            Ok(write!(out, " next {}", next_after.0)?)
+            out.push("data ");
+            out.push(bucket.as_str());
+            write_part(" after ", after.0, out);
+            out.push(if *has_more { " more" } else { " last" });
+            write_ops(ops.as_slice(), out);
+            write_part(" next ", next_after.0, out);
         }
-        Line::Complete { last_op } => Ok(write!(out, "complete {}", last_op.0)?),
-        Line::Expires { .. } | Line::Unknown => Err("no line of a session".into()),
+        Line::Complete { last_op } => write_part("complete ", last_op.0, out),
+        Line::Expires { .. } | Line::Unknown => return Err(Stop),
     }
+    Ok(())
 }
 
 // The line, or that there is none.
 pub fn write_answer(line: &Option<Line>, out: &mut Reply) -> Result<(), Stop> {
     match line {
         Some(line) => write_line(line, out),
-        None => write_action("no line", out),
+        None => {
+            out.push("no line");
+            Ok(())
+        }
     }
 }
