@@ -37,20 +37,6 @@ fn words(alloc: Global, rest: &str) -> Result<(Text, Text, u64), Stop> {
     ))
 }
 
-fn write_made(made: Result<u64, NumberFault>, out: &mut Reply) {
-    match made {
-        Ok(number) => {
-            out.push("number ");
-            out.show(&number);
-        }
-        Err(NumberFault::NumberFull { last }) => {
-            out.push("full ");
-            out.show(&last);
-        }
-        Err(NumberFault::Memory) => out.push("memory"),
-    }
-}
-
 fn write_number(alloc: Global, desk: &mut Desk, rest: &str, out: &mut Reply) -> Result<(), Stop> {
     let (user, client, head) = words(alloc, rest)?;
     if head < desk.head {
