@@ -43,10 +43,17 @@ fn write_number(alloc: Global, desk: &mut Desk, rest: &str, out: &mut Reply) -> 
         return Err(Stop);
     }
     desk.head = head;
-    write_made(
-        desk.numbers.make(alloc, &user, &client, Position(head)),
-        out,
-    );
+    match desk.numbers.make(alloc, &user, &client, Position(head)) {
+        Ok(number) => {
+            out.push("number ");
+            out.show(&number);
+        }
+        Err(NumberFault::NumberFull { last }) => {
+            out.push("full ");
+            out.show(&last);
+        }
+        Err(NumberFault::Memory) => out.push("memory"),
+    }
     Ok(())
 }
 

@@ -4,34 +4,33 @@
 mod events;
 
 use crate::lines::print_line;
-use case_words::{Stop, unescaped};
+use case_words::{Reply, Stop, unescaped};
 use events::show_event;
-use ps_data::Memory;
 use ps_script::{is_skipped, read_event, split_line};
 use std::alloc::Global;
 
 // What a script's line is read as.
-fn show_line(alloc: Global, out: &mut Reply, line: &[u8]) -> Result<(), Memory> {
+fn show_line(alloc: Global, out: &mut Reply, line: &[u8]) {
     if is_skipped(line) {
-        return Ok(out.push_str("skipped")?);
+        out.push("skipped");
+        return;
     }
     match read_event(alloc, line) {
         Ok(event) => show_event(out, &event),
-        Err(fault) => Ok(write!(out, "{fault:?}")?),
+        Err(fault) => out.debug(&fault),
     }
 }
 
 // What each of the lines is read as.
-fn answer(alloc: Global, out: &mut Reply, bytes: &[u8]) -> Result<(), Memory> {
+fn answer(alloc: Global, out: &mut Reply, bytes: &[u8]) {
     let (line, mut rest) = split_line(bytes);
-    show_line(alloc, out, line)?;
+    show_line(alloc, out, line);
     'lines: while let Some(bytes) = rest {
         let (line, after) = split_line(bytes);
         rest = after;
-        out.push_str(" | ")?;
-        show_line(alloc, out, line)?;
+        out.push(" | ");
+        show_line(alloc, out, line);
     }
-    Ok(())
 }
 
 /// Answers the cases.
@@ -39,7 +38,7 @@ pub fn answer_all(rt: HostRuntime, cases: &str, out: &mut Reply) -> Result<(), S
     ps_script::events_are_spelled();
     'lines: for line in cases.lines() {
         let bytes = unescaped(rt.alloc(), line)?;
-        answer(rt.alloc(), out, &bytes)?;
+        answer(rt.alloc(), out, &bytes);
         print_line(rt, out)?;
     }
     Ok(())

@@ -19,7 +19,7 @@
 mod words;
 
 use crate::lines::print_line;
-use case_words::{Stop, cut, number_in};
+use case_words::{Reply, Stop, cut, number_in};
 use ps_data::Text;
 use ps_token::{Claims, Keys, KeysFault, SignFault, TokenFault, mac, read_keys, sign, verify};
 use std::alloc::Global;
@@ -29,7 +29,7 @@ fn write_mac(alloc: Global, rest: &str, out: &mut Reply) -> Result<(), Stop> {
     let key = words::bytes(alloc, key)?;
     let message = words::bytes(alloc, message)?;
     let code = mac(key.as_slice(), message.as_slice());
-    out.push_str(hex::encode(alloc, &code)?.as_str())?;
+    out.push(hex::encode(alloc, &code)?.as_str());
     Ok(())
 }
 
@@ -44,52 +44,43 @@ fn write_keys(alloc: Global, rest: &str, out: &mut Reply) -> Result<Option<Keys>
         Err(KeysFault::BadShape) => "bad-shape",
         Err(KeysFault::Memory) => "memory",
     };
-    out.push_str(fault)?;
+    out.push(fault);
     Ok(None)
 }
 
 fn write_list(alloc: Global, keys: &Keys, out: &mut Reply) -> Result<(), Stop> {
-    out.push_str("keys")?;
+    out.push("keys");
     'keys: for key in keys.as_slice() {
-        out.push_str(" ")?;
-        out.push_str(key.kid.as_str())?;
-        out.push_str(":")?;
-        out.push_str(hex::encode(alloc, key.bytes.as_slice())?.as_str())?;
+        out.push(" ");
+        out.push(key.kid.as_str());
+        out.push(":");
+        out.push(hex::encode(alloc, key.bytes.as_slice())?.as_str());
     }
     Ok(())
 }
 
-fn write_claims(claims: &Claims, out: &mut Reply) -> Result<(), Stop> {
-    out.push_str("accepted ")?;
-    out.push_str(claims.subject.as_str())?;
-    out.push_str(" ")?;
-    write!(out, "{}", claims.exp)?;
-    out.push_str(" ")?;
-    out.push_str(claims.payload.as_str())?;
-    Ok(())
+fn write_claims(claims: &Claims, out: &mut Reply) {
+    out.push("accepted ");
+    out.push(claims.subject.as_str());
+    out.push(" ");
+    out.show(&claims.exp);
+    out.push(" ");
+    out.push(claims.payload.as_str());
 }
 
-fn write_verified(
-    alloc: Global,
-    keys: &Keys,
-    now: u64,
-    token: &[u8],
-    out: &mut Reply,
-) -> Result<(), Stop> {
-    let fault = match verify(alloc, keys, token, now) {
-        Ok(claims) => return write_claims(&claims, out),
-        Err(TokenFault::Malformed) => "malformed",
-        Err(TokenFault::UnknownKey) => "unknown-key",
-        Err(TokenFault::BadSignature) => "bad-signature",
+fn write_verified(alloc: Global, keys: &Keys, now: u64, token: &[u8], out: &mut Reply) {
+    match verify(alloc, keys, token, now) {
+        Ok(claims) => write_claims(&claims, out),
+        Err(TokenFault::Malformed) => out.push("malformed"),
+        Err(TokenFault::UnknownKey) => out.push("unknown-key"),
+        Err(TokenFault::BadSignature) => out.push("bad-signature"),
         Err(TokenFault::Expired { exp }) => {
-            write!(out, "expired {exp}")?;
-            return Ok(());
+            out.push("expired ");
+            out.show(&exp);
         }
-        Err(TokenFault::NoSubject) => "no-subject",
-        Err(TokenFault::Memory) => "memory",
-    };
-    out.push_str(fault)?;
-    Ok(())
+        Err(TokenFault::NoSubject) => out.push("no-subject"),
+        Err(TokenFault::Memory) => out.push("memory"),
+    }
 }
 
 // The token that is signed; where it is refused, the refusal is written.
@@ -102,13 +93,13 @@ fn signed(alloc: Global, keys: &Keys, rest: &str, out: &mut Reply) -> Result<Opt
         Err(SignFault::UnknownKey) => "unknown-key",
         Err(SignFault::Memory) => "memory",
     };
-    out.push_str(fault)?;
+    out.push(fault);
     Ok(None)
 }
 
 fn write_signed(alloc: Global, keys: &Keys, rest: &str, out: &mut Reply) -> Result<(), Stop> {
     if let Some(token) = signed(alloc, keys, rest, out)? {
-        out.push_str(token.as_str())?;
+        out.push(token.as_str());
     }
     Ok(())
 }
@@ -117,8 +108,22 @@ fn write_round(alloc: Global, keys: &Keys, rest: &str, out: &mut Reply) -> Resul
     let (now, rest) = cut(rest);
     let now = number_in(now)?;
     if let Some(token) = signed(alloc, keys, rest, out)? {
-        write_verified(alloc, keys, now, token.bytes(), out)?;
+        write_verified(alloc, keys, now, token.bytes(), out);
     }
+    Ok(())
+}
+
+fn write_text(alloc: Global, keys: &Keys, rest: &str, out: &mut Reply) -> Result<(), Stop> {
+    let (now, token) = cut(rest);
+    write_verified(alloc, keys, number_in(now)?, token.as_bytes(), out);
+    Ok(())
+}
+
+fn write_bytes(alloc: Global, keys: &Keys, rest: &str, out: &mut Reply) -> Result<(), Stop> {
+    let (now, token) = cut(rest);
+    let now = number_in(now)?;
+    let token = words::bytes(alloc, token)?;
+    write_verified(alloc, keys, now, token.as_slice(), out);
     Ok(())
 }
 
@@ -129,22 +134,13 @@ fn write_token(
     rest: &str,
     out: &mut Reply,
 ) -> Result<(), Stop> {
-    if word == "sign" {
-        return write_signed(alloc, keys, rest, out);
+    match word {
+        "sign" => write_signed(alloc, keys, rest, out),
+        "signed" => write_round(alloc, keys, rest, out),
+        "verify" => write_text(alloc, keys, rest, out),
+        "verify-bytes" => write_bytes(alloc, keys, rest, out),
+        _ => Err(Stop),
     }
-    if word == "signed" {
-        return write_round(alloc, keys, rest, out);
-    }
-    let (now, token) = cut(rest);
-    let now = number_in(now)?;
-    if word == "verify" {
-        return write_verified(alloc, keys, now, token.as_bytes(), out);
-    }
-    if word == "verify-bytes" {
-        let token = words::bytes(alloc, token)?;
-        return write_verified(alloc, keys, now, token.as_slice(), out);
-    }
-    Err("no such case".into())
 }
 
 fn answer(alloc: Global, keys: &mut Option<Keys>, line: &str, out: &mut Reply) -> Result<(), Stop> {
@@ -158,7 +154,10 @@ fn answer(alloc: Global, keys: &mut Option<Keys>, line: &str, out: &mut Reply) -
     }
     match keys {
         Some(keys) => write_token(alloc, keys, word, rest, out),
-        None => Ok(out.push_str("no keys")?),
+        None => {
+            out.push("no keys");
+            Ok(())
+        }
     }
 }
 

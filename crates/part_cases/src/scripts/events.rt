@@ -1,62 +1,66 @@
 //! Events, as they are printed.
 
 use crate::changes::write_change;
-use case_words::push_escaped;
-use ps_data::{Memory, Text};
+use case_words::Reply;
+use ps_data::Text;
 use ps_rows::Change;
 use ps_script::ScriptEvent;
 use ps_sql_eval::Asker;
-use std::alloc::AllocError;
 
 /// An event: its word, and its arguments.
-pub fn show_event(out: &mut Reply, event: &ScriptEvent) -> Result<(), Memory> {
-    let written = match event {
-        ScriptEvent::Feed { count } => write!(out, "feed {count}"),
-        ScriptEvent::Close => out.push_str("close"),
-        ScriptEvent::Write { limit } => write!(out, "write {limit}"),
-        ScriptEvent::Commit => out.push_str("commit"),
-        ScriptEvent::Compact { bucket } => return show_compaction(out, bucket),
-        ScriptEvent::Client { name, asker } => return show_client(out, name, asker),
-        ScriptEvent::Local { name, change } => return show_local(out, name, change),
-        ScriptEvent::Open { name } => push_named(out, "open", name),
-        ScriptEvent::Turn { name } => push_named(out, "turn", name),
-        ScriptEvent::Take { name } => push_named(out, "take", name),
-        ScriptEvent::Cut { name } => push_named(out, "cut", name),
-        ScriptEvent::Alter { name } => push_named(out, "alter", name),
-        ScriptEvent::Upload { name } => push_named(out, "upload", name),
-        ScriptEvent::Number { name } => push_named(out, "number", name),
-        ScriptEvent::Rows { name } => push_named(out, "rows", name),
-        ScriptEvent::Totals => out.push_str("totals"),
-        ScriptEvent::Deploy => out.push_str("deploy"),
-        ScriptEvent::Build { limit } => write!(out, "build {limit}"),
-        ScriptEvent::Switch => out.push_str("switch"),
-        ScriptEvent::Abandon => out.push_str("abandon"),
-    };
-    Ok(written?)
-}
-
-fn show_compaction(out: &mut Reply, bucket: &Text) -> Result<(), Memory> {
-    out.push_str("compact '")?;
-    push_escaped(out, bucket.as_str())?;
-    Ok(out.push_str("'")?)
-}
-
-fn show_client(out: &mut Reply, name: &Text, asker: &Asker) -> Result<(), Memory> {
-    write!(out, "client {} user ", name.as_str())?;
-    push_escaped(out, asker.user.as_str())?;
-    let (payload, parameters) = (asker.payload.as_str(), asker.parameters.as_str());
-    write!(out, " payload {payload} parameters {parameters}")?;
-    match &asker.client {
-        Some(id) => Ok(write!(out, " id {}", id.as_str())?),
-        None => Ok(()),
+pub fn show_event(out: &mut Reply, event: &ScriptEvent) {
+    match event {
+        ScriptEvent::Feed { count } => show_count(out, "feed ", *count),
+        ScriptEvent::Close => out.push("close"),
+        ScriptEvent::Write { limit } => show_count(out, "write ", *limit),
+        ScriptEvent::Commit => out.push("commit"),
+        ScriptEvent::Compact { bucket } => show_compaction(out, bucket),
+        ScriptEvent::Client { name, asker } => show_client(out, name, asker),
+        ScriptEvent::Local { name, change } => show_local(out, name, change),
+        ScriptEvent::Open { name } => show_named(out, "open ", name),
+        ScriptEvent::Turn { name } => show_named(out, "turn ", name),
+        ScriptEvent::Take { name } => show_named(out, "take ", name),
+        ScriptEvent::Cut { name } => show_named(out, "cut ", name),
+        ScriptEvent::Alter { name } => show_named(out, "alter ", name),
+        ScriptEvent::Upload { name } => show_named(out, "upload ", name),
+        ScriptEvent::Number { name } => show_named(out, "number ", name),
+        ScriptEvent::Rows { name } => show_named(out, "rows ", name),
+        ScriptEvent::Totals => out.push("totals"),
+        ScriptEvent::Deploy => out.push("deploy"),
+        ScriptEvent::Build { limit } => show_count(out, "build ", *limit),
+        ScriptEvent::Switch => out.push("switch"),
+        ScriptEvent::Abandon => out.push("abandon"),
     }
 }
 
-fn show_local(out: &mut Reply, name: &Text, change: &Change) -> Result<(), Memory> {
-    write!(out, "local {}", name.as_str())?;
-    write_change(out, change, "=null")
+fn show_count(out: &mut Reply, word: &str, count: u32) {
+    out.push(word);
+    out.show(&count);
 }
 
-fn push_named(out: &mut Reply, word: &str, name: &Text) -> Result<(), AllocError> {
-    write!(out, "{word} {}", name.as_str())
+fn show_named(out: &mut Reply, word: &str, name: &Text) {
+    out.push(word);
+    out.push(name.as_str());
+}
+
+fn show_compaction(out: &mut Reply, bucket: &Text) {
+    out.push("compact '");
+    out.escape(bucket.as_str());
+    out.push("'");
+}
+
+fn show_client(out: &mut Reply, name: &Text, asker: &Asker) {
+    show_named(out, "client ", name);
+    out.push(" user ");
+    out.escape(asker.user.as_str());
+    show_named(out, " payload ", &asker.payload);
+    show_named(out, " parameters ", &asker.parameters);
+    if let Some(id) = &asker.client {
+        show_named(out, " id ", id);
+    }
+}
+
+fn show_local(out: &mut Reply, name: &Text, change: &Change) {
+    show_named(out, "local ", name);
+    write_change(out, change, "=null");
 }
