@@ -19,7 +19,7 @@ mod reading;
 mod words;
 
 use crate::lines::print_line;
-use case_words::{Stop, cut, number_in, push_spelled};
+use case_words::{Reply, Stop, cut, number_in, push_spelled};
 use ps_data::Text;
 use ps_http::query_value;
 use std::alloc::Global;
@@ -30,10 +30,10 @@ fn write_value(alloc: Global, rest: &str, out: &mut Reply) -> Result<(), Stop> {
     let query = Text::from_str(alloc, query)?;
     match query_value(alloc, &query, &name)? {
         Some(value) => {
-            out.push_str("some ")?;
-            words::push_shown(value.bytes(), out)?;
+            out.push("some ");
+            words::push_shown(value.bytes(), out);
         }
-        None => out.push_str("none")?,
+        None => out.push("none"),
     }
     Ok(())
 }
@@ -64,14 +64,14 @@ fn answer(
     match word {
         "head" => reading::write_head_read(alloc, request, rest, out)?,
         "body" => reading::write_body_read(alloc, request, rest, out)?,
-        "system" => outside::write_system(alloc, request, out)?,
+        "system" => outside::write_system(alloc, request, out),
         "pieces" => outside::write_pieces(alloc, rest, request, out)?,
         "cuts" => reading::write_cuts(alloc, request, out)?,
         "faults" => reading::write_faults(alloc, request, out)?,
         "query" => write_value(alloc, rest, out)?,
         "answer" => heads::write_answer(alloc, rest, out)?,
         "moments" => outside::write_moments(rest, out)?,
-        "unread" => outside::write_unread(out)?,
+        "unread" => outside::write_unread(out),
         _ => return Err("no such case".into()),
     }
     Ok(())
@@ -86,7 +86,7 @@ pub fn answer_all(rt: HostRuntime, cases: &str, out: &mut Reply) -> Result<(), S
             continue;
         }
         if word == "clock" {
-            outside::write_clock(&rt, out)?;
+            outside::write_clock(&rt, out);
         } else {
             answer(rt.alloc(), word, rest, request.as_slice(), out)?;
         }

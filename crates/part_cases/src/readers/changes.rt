@@ -1,27 +1,25 @@
+use crate::changes::write_change;
 use crate::readers::queries::text_of;
+use case_words::Reply;
 use ps_changes::{ChangeFault, read_change, read_changes, read_line};
-use ps_data::{Column, Memory, Text, Value};
-use ps_rows::{Change, Row, Shown, Transaction};
-use std::alloc::{AllocError, Global};
+use ps_data::{Memory, Text};
+use ps_rows::{Change, Shown, Transaction};
+use std::alloc::Global;
 
 /// What a change line is read as.
-pub fn change_line(alloc: Global, bytes: &[u8]) -> Result<String, Memory> {
-    let mut out = String::new(alloc);
+pub fn change_line(alloc: Global, bytes: &[u8], out: &mut Reply) {
     match read_line(alloc, bytes) {
-        Ok(transaction) => show_transaction(&mut out, &transaction)?,
-        Err(fault) => write!(out, "{fault:?}")?,
+        Ok(transaction) => show_transaction(out, &transaction),
+        Err(fault) => out.debug(&fault),
     }
-    Ok(out)
 }
 
 /// The same of a copy.
-pub fn copied_change_line(alloc: Global, bytes: &[u8]) -> Result<String, Memory> {
-    let mut out = String::new(alloc);
+pub fn copied_change_line(alloc: Global, bytes: &[u8], out: &mut Reply) {
     match copied(alloc, bytes) {
-        Ok(transaction) => show_transaction(&mut out, &transaction)?,
-        Err(fault) => write!(out, "{fault:?}")?,
+        Ok(transaction) => show_transaction(out, &transaction),
+        Err(fault) => out.debug(&fault),
     }
-    Ok(out)
 }
 
 // The copy, which outlives what it was made of.
@@ -31,64 +29,37 @@ fn copied(alloc: Global, bytes: &[u8]) -> Result<Transaction, ChangeFault> {
 }
 
 /// What the body of an upload is read as.
-pub fn changes(alloc: Global, bytes: &[u8]) -> Result<String, Memory> {
-    let mut out = String::new(alloc);
+pub fn changes(alloc: Global, bytes: &[u8], out: &mut Reply) {
     match read_changes(alloc, bytes) {
-        Ok(changes) => show_changes(&mut out, changes.as_slice())?,
-        Err(fault) => write!(out, "{fault:?}")?,
+        Ok(changes) => show_changes(out, changes.as_slice()),
+        Err(fault) => out.debug(&fault),
     }
-    Ok(out)
 }
 
 /// What a change by itself is read as.
-pub fn change(alloc: Global, bytes: &[u8]) -> Result<String, Memory> {
-    let mut out = String::new(alloc);
+pub fn change(alloc: Global, bytes: &[u8], out: &mut Reply) {
     match read_change(alloc, bytes) {
-        Ok(change) => show_change(&mut out, &change)?,
-        Err(fault) => write!(out, "{fault:?}")?,
+        Ok(change) => show_change(out, &change),
+        Err(fault) => out.debug(&fault),
     }
-    Ok(out)
 }
 
 // Its position, and each change.
-fn show_transaction(out: &mut Reply, transaction: &Transaction) -> Result<(), AllocError> {
-    write!(out, "{}", transaction.position.0)?;
-    show_changes(out, transaction.changes.as_slice())
+fn show_transaction(out: &mut Reply, transaction: &Transaction) {
+    out.show(&transaction.position.0);
+    show_changes(out, transaction.changes.as_slice());
 }
 
-fn show_changes(out: &mut Reply, changes: &[Change]) -> Result<(), AllocError> {
+fn show_changes(out: &mut Reply, changes: &[Change]) {
     'changes: for change in changes {
-        show_change(out, change)?;
+        show_change(out, change);
     }
-    Ok(())
 }
 
 /// A change: its table, its id and the columns of its row.
-pub fn show_change(out: &mut Reply, change: &Change) -> Result<(), AllocError> {
-    let (table, id) = (change.table.as_str(), change.id.as_str());
-    match &change.row {
-        Some(row) => {
-            write!(out, "; put {table} {id}")?;
-            show_row(out, row)
-        }
-        None => write!(out, "; delete {table} {id}"),
-    }
-}
-
-fn show_row(out: &mut Reply, row: &Row) -> Result<(), AllocError> {
-    'columns: for column in row.columns() {
-        show_column(out, column)?;
-    }
-    Ok(())
-}
-
-fn show_column(out: &mut Reply, column: &Column) -> Result<(), AllocError> {
-    let name = column.name.as_str();
-    match &column.value {
-        Value::Null => write!(out, " {name}=null"),
-        Value::Int(number) => write!(out, " {name}={number}"),
-        Value::Text(text) => write!(out, " {name}='{}'", text.as_str()),
-    }
+pub fn show_change(out: &mut Reply, change: &Change) {
+    out.push(";");
+    write_change(out, change, "=null");
 }
 
 // The row that three words stand for: its type, its id and its data.
@@ -103,9 +74,10 @@ fn shown(alloc: Global, words: &str) -> Result<Shown, Memory> {
 }
 
 /// Whether two rows with `;` between are the same to a client.
-pub fn same_rows(alloc: Global, bytes: &[u8]) -> Result<String, Memory> {
+pub fn same_rows(alloc: Global, bytes: &[u8], out: &mut Reply) -> Result<(), Memory> {
     let text = text_of(alloc, bytes)?;
     let (one, other) = text.as_str().split_once(';').unwrap_or((text.as_str(), ""));
     let same = shown(alloc, one)? == shown(alloc, other)?;
-    Ok(format!(in alloc; "{same}")?)
+    out.show(&same);
+    Ok(())
 }

@@ -1,6 +1,7 @@
 use crate::readers::changes::show_change;
 use crate::readers::expressions::show_fault;
 use crate::readers::queries::text_of;
+use case_words::Reply;
 use ps_changes::read_change;
 use ps_data::{Items, Memory, Text, Value};
 use ps_queries::{Expr, Subject};
@@ -21,8 +22,10 @@ fn nothing(alloc: Global) -> Text {
     Text::from_string(String::new(alloc))
 }
 
-fn shown_text(alloc: Global, text: &Text) -> Result<String, Memory> {
-    Ok(format!(in alloc; "'{}'", text.as_str())?)
+fn show_text(out: &mut Reply, text: &Text) {
+    out.push("'");
+    out.push(text.as_str());
+    out.push("'");
 }
 
 impl Asking {
@@ -40,32 +43,43 @@ impl Asking {
         }
     }
 
-    pub fn set_user(&mut self, alloc: Global, bytes: &[u8]) -> Result<String, Memory> {
+    pub fn set_user(&mut self, alloc: Global, bytes: &[u8], out: &mut Reply) -> Result<(), Memory> {
         self.asker.user = text_of(alloc, bytes)?;
-        shown_text(alloc, &self.asker.user)
+        show_text(out, &self.asker.user);
+        Ok(())
     }
 
-    pub fn set_payload(&mut self, alloc: Global, bytes: &[u8]) -> Result<String, Memory> {
+    pub fn set_payload(
+        &mut self,
+        alloc: Global,
+        bytes: &[u8],
+        out: &mut Reply,
+    ) -> Result<(), Memory> {
         self.asker.payload = text_of(alloc, bytes)?;
-        shown_text(alloc, &self.asker.payload)
+        show_text(out, &self.asker.payload);
+        Ok(())
     }
 
-    pub fn set_parameters(&mut self, alloc: Global, bytes: &[u8]) -> Result<String, Memory> {
+    pub fn set_parameters(
+        &mut self,
+        alloc: Global,
+        bytes: &[u8],
+        out: &mut Reply,
+    ) -> Result<(), Memory> {
         self.asker.parameters = text_of(alloc, bytes)?;
-        shown_text(alloc, &self.asker.parameters)
+        show_text(out, &self.asker.parameters);
+        Ok(())
     }
 
     /// Sets the row and its id to those of a change.
-    pub fn set_row(&mut self, alloc: Global, bytes: &[u8]) -> Result<String, Memory> {
-        let mut out = String::new(alloc);
+    pub fn set_row(&mut self, alloc: Global, bytes: &[u8], out: &mut Reply) {
         match read_change(alloc, bytes) {
             Ok(change) => {
-                show_change(&mut out, &change)?;
+                show_change(out, &change);
                 self.take(change);
             }
-            Err(fault) => write!(out, "{fault:?}")?,
+            Err(fault) => out.debug(&fault),
         }
-        Ok(out)
     }
 
     fn take(&mut self, change: Change) {
@@ -77,38 +91,52 @@ impl Asking {
     }
 
     /// The value of an expression.
-    pub fn evaluated(&self, alloc: Global, bytes: &[u8]) -> Result<String, Memory> {
+    pub fn evaluated(&self, alloc: Global, bytes: &[u8], out: &mut Reply) -> Result<(), Memory> {
         match condition(alloc, bytes) {
-            Ok(Some(expr)) => self.value(alloc, &expr),
-            refused => shown_refusal(alloc, &refused),
+            Ok(Some(expr)) => self.show_asked(alloc, &expr, out)?,
+            Ok(None) => out.push("no condition"),
+            Err(fault) => show_fault(out, &fault),
         }
+        Ok(())
     }
 
     /// The value of an expression that does not speak of the asker.
-    pub fn evaluated_on_row(&self, alloc: Global, bytes: &[u8]) -> Result<String, Memory> {
+    pub fn evaluated_on_row(
+        &self,
+        alloc: Global,
+        bytes: &[u8],
+        out: &mut Reply,
+    ) -> Result<(), Memory> {
         match condition(alloc, bytes) {
-            Ok(Some(expr)) => self.value_on_row(alloc, &expr),
-            refused => shown_refusal(alloc, &refused),
+            Ok(Some(expr)) => self.show_on_row(alloc, &expr, out)?,
+            Ok(None) => out.push("no condition"),
+            Err(fault) => show_fault(out, &fault),
         }
+        Ok(())
     }
 
     // The value for the asker, on the row; where that does not speak of the asker, it is also what anyone gets.
-    fn value(&self, alloc: Global, expr: &Expr) -> Result<String, Memory> {
+    fn show_asked(&self, alloc: Global, expr: &Expr, out: &mut Reply) -> Result<(), Memory> {
         if expr.speaks_of(Subject::Bucket) {
-            return Ok(String::from_str(alloc, "a bucket's")?);
+            out.push("a bucket's");
+            return Ok(());
         }
         let value = eval_request(alloc, expr, &self.asker, &self.id, &self.row)?;
         if !expr.speaks_of(Subject::Asker) && eval_row(alloc, expr, &self.id, &self.row)? != value {
-            return Ok(String::from_str(alloc, "another value without an asker")?);
+            out.push("another value without an asker");
+        } else {
+            show_value(out, &value);
         }
-        shown(alloc, &value)
+        Ok(())
     }
 
-    fn value_on_row(&self, alloc: Global, expr: &Expr) -> Result<String, Memory> {
+    fn show_on_row(&self, alloc: Global, expr: &Expr, out: &mut Reply) -> Result<(), Memory> {
         if expr.speaks_of(Subject::Bucket) || expr.speaks_of(Subject::Asker) {
-            return Ok(String::from_str(alloc, "a bucket's or an asker's")?);
+            out.push("a bucket's or an asker's");
+            return Ok(());
         }
-        shown(alloc, &eval_row(alloc, expr, &self.id, &self.row)?)
+        show_value(out, &eval_row(alloc, expr, &self.id, &self.row)?);
+        Ok(())
     }
 }
 
@@ -126,23 +154,11 @@ fn condition(alloc: Global, bytes: &[u8]) -> Result<Option<Expr>, SqlFault> {
     }
 }
 
-fn shown_refusal(
-    alloc: Global,
-    refused: &Result<Option<Expr>, SqlFault>,
-) -> Result<String, Memory> {
-    let mut out = String::new(alloc);
-    match refused {
-        Ok(_) => out.push_str("no condition")?,
-        Err(fault) => show_fault(&mut out, fault)?,
-    }
-    Ok(out)
-}
-
 // A text in quotes, so that digits are no number.
-fn shown(alloc: Global, value: &Value) -> Result<String, Memory> {
+fn show_value(out: &mut Reply, value: &Value) {
     match value {
-        Value::Null => Ok(String::from_str(alloc, "NULL")?),
-        Value::Int(number) => Ok(format!(in alloc; "{number}")?),
-        Value::Text(text) => shown_text(alloc, text),
+        Value::Null => out.push("NULL"),
+        Value::Int(number) => out.show(number),
+        Value::Text(text) => show_text(out, text),
     }
 }

@@ -1,27 +1,32 @@
+use case_words::Reply;
 use ps_bucket_log::{Key, Op};
-use ps_data::{Memory, Text};
+use ps_data::{OpId, Text};
 use ps_lines::{Entry, Line, read_line};
-use std::alloc::{AllocError, Global};
+use std::alloc::Global;
 
 /// What a line of a stream is read as.
-pub fn line(alloc: Global, bytes: &[u8]) -> Result<String, Memory> {
-    let mut out = String::new(alloc);
+pub fn line(alloc: Global, bytes: &[u8], out: &mut Reply) {
     match read_line(alloc, bytes) {
-        Ok(line) => show_line(&mut out, &line)?,
-        Err(fault) => write!(out, "{fault:?}")?,
+        Ok(line) => show_line(out, &line),
+        Err(fault) => out.debug(&fault),
     }
-    Ok(out)
 }
 
-fn show_line(out: &mut Reply, line: &Line) -> Result<(), AllocError> {
+fn show_part(out: &mut Reply, text: &str, number: u64) {
+    out.push(text);
+    out.show(&number);
+}
+
+fn show_line(out: &mut Reply, line: &Line) {
     match line {
         Line::Checkpoint {
             last_op,
             number,
             buckets,
         } => {
-            write!(out, "checkpoint {} number {number:?}", last_op.0)?;
-            show_entries(out, buckets.as_slice())
+            show_part(out, "checkpoint ", last_op.0);
+            show_number(out, number);
+            show_entries(out, buckets.as_slice());
         }
         Line::Diff {
             last_op,
@@ -29,9 +34,10 @@ fn show_line(out: &mut Reply, line: &Line) -> Result<(), AllocError> {
             removed,
             updated,
         } => {
-            write!(out, "diff {} number {number:?}", last_op.0)?;
-            show_removed(out, removed.as_slice())?;
-            show_entries(out, updated.as_slice())
+            show_part(out, "diff ", last_op.0);
+            show_number(out, number);
+            show_removed(out, removed.as_slice());
+            show_entries(out, updated.as_slice());
         }
         Line::Data {
             bucket,
@@ -40,82 +46,88 @@ fn show_line(out: &mut Reply, line: &Line) -> Result<(), AllocError> {
             ops,
             next_after,
         } => {
-            let bucket = bucket.as_str();
-            write!(
-                out,
-                "data {bucket} after {} more {has_more} next {}",
-                after.0, next_after.0
-            )?;
-            show_ops(out, ops.as_slice())
+            out.push("data ");
+            out.push(bucket.as_str());
+            show_part(out, " after ", after.0);
+            out.push(if *has_more {
+                " more true"
+            } else {
+                " more false"
+            });
+            show_part(out, " next ", next_after.0);
+            show_ops(out, ops.as_slice());
         }
-        Line::Complete { last_op } => write!(out, "complete {}", last_op.0),
-        Line::Expires { seconds } => write!(out, "expires {seconds}"),
-        Line::Unknown => out.push_str("unknown"),
+        Line::Complete { last_op } => show_part(out, "complete ", last_op.0),
+        Line::Expires { seconds } => show_part(out, "expires ", *seconds),
+        Line::Unknown => out.push("unknown"),
     }
 }
 
-fn show_removed(out: &mut Reply, removed: &[Text]) -> Result<(), AllocError> {
+fn show_number(out: &mut Reply, number: &Option<u64>) {
+    out.push(" number ");
+    out.debug(number);
+}
+
+fn show_removed(out: &mut Reply, removed: &[Text]) {
     'removed: for bucket in removed {
-        write!(out, "; removed {}", bucket.as_str())?;
+        out.push("; removed ");
+        out.push(bucket.as_str());
     }
-    Ok(())
 }
 
-fn show_entries(out: &mut Reply, entries: &[Entry]) -> Result<(), AllocError> {
+fn show_entries(out: &mut Reply, entries: &[Entry]) {
     'entries: for entry in entries {
-        let (count, priority) = (entry.count, entry.priority);
-        write!(
-            out,
-            "; {} sum {} count {count} priority {priority}",
-            entry.bucket.as_str(),
-            entry.sum.0
-        )?;
+        out.push("; ");
+        out.push(entry.bucket.as_str());
+        show_part(out, " sum ", u64::from(entry.sum.0));
+        show_part(out, " count ", entry.count);
+        show_part(out, " priority ", u64::from(entry.priority));
     }
-    Ok(())
 }
 
-fn show_ops(out: &mut Reply, ops: &[Op]) -> Result<(), AllocError> {
+fn show_ops(out: &mut Reply, ops: &[Op]) {
     'ops: for op in ops {
-        show_op(out, op)?;
+        show_op(out, op);
     }
-    Ok(())
 }
 
-fn show_op(out: &mut Reply, op: &Op) -> Result<(), AllocError> {
+fn kind_of(op: &Op) -> &'static str {
     match op {
-        Op::Put {
-            id,
-            key,
-            content,
-            sum,
-        } => {
-            write!(out, "; put {} sum {}", id.0, sum.0)?;
-            show_key(out, key)?;
-            write!(out, " {}", content.as_str())
-        }
-        Op::Remove { id, key, sum } => {
-            write!(out, "; remove {} sum {}", id.0, sum.0)?;
-            show_key(out, key)
-        }
-        Op::Move { id, sum, target } => {
-            write!(out, "; move {} sum {} target {}", id.0, sum.0, target.0)
-        }
-        Op::Clear { id, sum, target } => {
-            write!(out, "; clear {} sum {}", id.0, sum.0)?;
-            match target {
-                Some(target) => write!(out, " target {}", target.0),
-                None => out.push_str(" no target"),
-            }
-        }
+        Op::Put { .. } => "; put ",
+        Op::Remove { .. } => "; remove ",
+        Op::Move { .. } => "; move ",
+        Op::Clear { .. } => "; clear ",
     }
 }
 
-fn show_key(out: &mut Reply, key: &Key) -> Result<(), AllocError> {
-    write!(
-        out,
-        " {} {} {}",
-        key.kind.as_str(),
-        key.id.as_str(),
-        key.subkey.as_str()
-    )
+fn show_op(out: &mut Reply, op: &Op) {
+    show_part(out, kind_of(op), op.id().0);
+    show_part(out, " sum ", u64::from(op.sum().0));
+    match op {
+        Op::Put { key, content, .. } => {
+            show_key(out, key);
+            show_word(out, content.as_str());
+        }
+        Op::Remove { key, .. } => show_key(out, key),
+        Op::Move { target, .. } => show_part(out, " target ", target.0),
+        Op::Clear { target, .. } => show_target(out, *target),
+    }
+}
+
+fn show_target(out: &mut Reply, target: Option<OpId>) {
+    match target {
+        Some(target) => show_part(out, " target ", target.0),
+        None => out.push(" no target"),
+    }
+}
+
+fn show_word(out: &mut Reply, word: &str) {
+    out.push(" ");
+    out.push(word);
+}
+
+fn show_key(out: &mut Reply, key: &Key) {
+    show_word(out, key.kind.as_str());
+    show_word(out, key.id.as_str());
+    show_word(out, key.subkey.as_str());
 }

@@ -1,7 +1,7 @@
 //! Documents that are too long or too deep for a line.
 
 use crate::readers::yaml::pairs_of;
-use case_words::short_number_in;
+use case_words::{Reply, short_number_in};
 use ps_data::Memory;
 use std::alloc::Global;
 
@@ -13,25 +13,27 @@ fn number_of(bytes: &[u8]) -> u32 {
 }
 
 /// The length of a document of so many names and a comment without a line feed, and how many pairs are read of it.
-pub fn long_yaml(alloc: Global, bytes: &[u8]) -> Result<String, Memory> {
+pub fn long_yaml(alloc: Global, bytes: &[u8], out: &mut Reply) -> Result<(), Memory> {
     let mut text = String::new(alloc);
     'names: for number in 0..number_of(bytes) {
         write!(text, "name{number:05}: v\n")?;
     }
     text.push_str("# the end")?;
-    let length = text.len();
-    let pairs = pairs_of(alloc, text.as_bytes())?;
-    Ok(format!(in alloc; "{length} {pairs}")?)
+    out.show(&text.len());
+    out.push(" ");
+    pairs_of(alloc, text.as_bytes(), out);
+    Ok(())
 }
 
 /// How many pairs stand on the lowest level of a document of so many maps in one another.
-pub fn deep_yaml(alloc: Global, bytes: &[u8]) -> Result<String, Memory> {
+pub fn deep_yaml(alloc: Global, bytes: &[u8], out: &mut Reply) -> Result<(), Memory> {
     let mut text = String::new(alloc);
     'depths: for depth in 0..number_of(bytes) {
         push_spaces(&mut text, depth)?;
         text.push_str("a:\n")?;
     }
-    pairs_of(alloc, text.as_bytes())
+    pairs_of(alloc, text.as_bytes(), out);
+    Ok(())
 }
 
 fn push_spaces(text: &mut String, count: u32) -> Result<(), Memory> {

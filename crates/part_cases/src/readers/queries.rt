@@ -1,8 +1,9 @@
-use crate::readers::expressions::{show_condition, show_fault};
+use crate::readers::expressions::{show, show_condition, show_fault};
+use case_words::Reply;
 use ps_data::{Memory, Text};
 use ps_queries::{DataQuery, Expr, Output, ParameterQuery};
 use ps_sql::{SqlFault, Token, read_data_query, read_parameter_query, tokens};
-use std::alloc::{AllocError, Global};
+use std::alloc::Global;
 
 /// The text of bytes; of what is no UTF-8, that it is not.
 pub fn text_of(alloc: Global, bytes: &[u8]) -> Result<Text, Memory> {
@@ -13,70 +14,71 @@ pub fn text_of(alloc: Global, bytes: &[u8]) -> Result<Text, Memory> {
 }
 
 /// What a data query is read as: whether it has `*`, its outputs, its table, its kind and its condition.
-pub fn data_query(alloc: Global, bytes: &[u8]) -> Result<String, Memory> {
-    let mut out = String::new(alloc);
+pub fn data_query(alloc: Global, bytes: &[u8], out: &mut Reply) -> Result<(), Memory> {
     let text = text_of(alloc, bytes)?;
     if text.bytes().len() >= 4294967295 {
-        return Ok(out);
+        return Ok(());
     }
     match read_data_query(alloc, &text) {
-        Ok(query) => show_data(&mut out, &query)?,
-        Err(fault) => show_fault(&mut out, &fault)?,
-    }
-    Ok(out)
-}
-
-fn show_data(out: &mut Reply, query: &DataQuery) -> Result<(), AllocError> {
-    write!(out, "{} ", query.star)?;
-    show_outputs(out, query.outputs.as_slice())?;
-    write!(out, "{} {} ", query.table.as_str(), query.kind.as_str())?;
-    show_condition(out, &query.condition)
-}
-
-fn show_outputs(out: &mut Reply, outputs: &[Output]) -> Result<(), AllocError> {
-    'outputs: for output in outputs {
-        write!(out, "{}=", output.name.as_str())?;
-        crate::readers::expressions::show(out, &output.expr)?;
-        out.push(' ')?;
+        Ok(query) => show_data(out, &query),
+        Err(fault) => show_fault(out, &fault),
     }
     Ok(())
 }
 
-/// What a parameter query is read as: its outputs, its table or `-`, and its condition.
-pub fn parameter_query(alloc: Global, bytes: &[u8]) -> Result<String, Memory> {
-    let mut out = String::new(alloc);
-    let text = text_of(alloc, bytes)?;
-    if text.bytes().len() >= 4294967295 {
-        return Ok(out);
-    }
-    match read_parameter_query(alloc, &text) {
-        Ok(query) => show_parameter(&mut out, &query)?,
-        Err(fault) => show_fault(&mut out, &fault)?,
-    }
-    Ok(out)
+fn show_data(out: &mut Reply, query: &DataQuery) {
+    out.push(if query.star { "true " } else { "false " });
+    show_outputs(out, query.outputs.as_slice());
+    out.push(query.table.as_str());
+    out.push(" ");
+    out.push(query.kind.as_str());
+    out.push(" ");
+    show_condition(out, &query.condition);
 }
 
-fn show_parameter(out: &mut Reply, query: &ParameterQuery) -> Result<(), AllocError> {
-    show_outputs(out, query.outputs.as_slice())?;
-    match &query.table {
-        Some(table) => write!(out, "{} ", table.as_str())?,
-        None => out.push_str("- ")?,
+fn show_outputs(out: &mut Reply, outputs: &[Output]) {
+    'outputs: for output in outputs {
+        out.push(output.name.as_str());
+        out.push("=");
+        show(out, &output.expr);
+        out.push(" ");
     }
-    show_condition(out, &query.condition)
+}
+
+/// What a parameter query is read as: its outputs, its table or `-`, and its condition.
+pub fn parameter_query(alloc: Global, bytes: &[u8], out: &mut Reply) -> Result<(), Memory> {
+    let text = text_of(alloc, bytes)?;
+    if text.bytes().len() >= 4294967295 {
+        return Ok(());
+    }
+    match read_parameter_query(alloc, &text) {
+        Ok(query) => show_parameter(out, &query),
+        Err(fault) => show_fault(out, &fault),
+    }
+    Ok(())
+}
+
+fn show_parameter(out: &mut Reply, query: &ParameterQuery) {
+    show_outputs(out, query.outputs.as_slice());
+    match &query.table {
+        Some(table) => out.push(table.as_str()),
+        None => out.push("-"),
+    }
+    out.push(" ");
+    show_condition(out, &query.condition);
 }
 
 /// A copy of a data query's condition.
-pub fn copied(alloc: Global, bytes: &[u8]) -> Result<String, Memory> {
-    let mut out = String::new(alloc);
+pub fn copied(alloc: Global, bytes: &[u8], out: &mut Reply) -> Result<(), Memory> {
     let text = text_of(alloc, bytes)?;
     if text.bytes().len() >= 4294967295 {
-        return Ok(out);
+        return Ok(());
     }
     match copied_condition(alloc, &text) {
-        Ok(condition) => show_condition(&mut out, &condition)?,
-        Err(fault) => show_fault(&mut out, &fault)?,
+        Ok(condition) => show_condition(out, &condition),
+        Err(fault) => show_fault(out, &fault),
     }
-    Ok(out)
+    Ok(())
 }
 
 // The copy, which outlives its query.
@@ -92,24 +94,26 @@ fn copied_condition(alloc: Global, text: &Text) -> Result<Option<Expr>, SqlFault
 }
 
 /// The tokens of a text: how many there are, and each one's kind and the places where it begins and ends.
-pub fn token_places(alloc: Global, bytes: &[u8]) -> Result<String, Memory> {
-    let mut out = String::new(alloc);
+pub fn token_places(alloc: Global, bytes: &[u8], out: &mut Reply) -> Result<(), Memory> {
     let text = text_of(alloc, bytes)?;
     if text.bytes().len() >= 4294967295 {
-        return Ok(out);
+        return Ok(());
     }
     match tokens(alloc, &text) {
-        Ok(tokens) => show_tokens(&mut out, tokens.as_slice())?,
-        Err(fault) => show_fault(&mut out, &fault)?,
-    }
-    Ok(out)
-}
-
-fn show_tokens(out: &mut Reply, tokens: &[Token]) -> Result<(), AllocError> {
-    write!(out, "{}", tokens.len())?;
-    'tokens: for token in tokens {
-        let (kind, from, upto) = (token.kind, token.from, token.upto);
-        write!(out, " {kind:?} {from}-{upto}")?;
+        Ok(tokens) => show_tokens(out, tokens.as_slice()),
+        Err(fault) => show_fault(out, &fault),
     }
     Ok(())
+}
+
+fn show_tokens(out: &mut Reply, tokens: &[Token]) {
+    out.show(&tokens.len());
+    'tokens: for token in tokens {
+        out.push(" ");
+        out.debug(&token.kind);
+        out.push(" ");
+        out.show(&token.from);
+        out.push("-");
+        out.show(&token.upto);
+    }
 }

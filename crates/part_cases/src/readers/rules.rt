@@ -1,5 +1,6 @@
 use crate::readers::expressions::show;
 use crate::readers::rules_faults::show_fault;
+use case_words::Reply;
 use ps_data::Memory;
 use ps_definitions::{
     Branch, Definition, Match, Planned, Rules, Warning, WarningKind,
@@ -7,29 +8,25 @@ use ps_definitions::{
 };
 use ps_queries::same_for_every_bucket;
 use ps_rules::{RulesFault, read_rules};
-use std::alloc::{AllocError, Global};
+use std::alloc::Global;
 
 /// What rules are read as: a line for each definition and each warning.
-pub fn rules(alloc: Global, bytes: &[u8]) -> Result<String, Memory> {
-    let mut out = String::new(alloc);
+pub fn rules(alloc: Global, bytes: &[u8], out: &mut Reply) {
     if bytes.len() >= 4294967295 {
-        return Ok(out);
+        return;
     }
     match read_rules(alloc, bytes) {
-        Ok(rules) => show_rules(&mut out, &rules)?,
-        Err(fault) => show_fault(&mut out, &fault)?,
+        Ok(rules) => show_rules(out, &rules),
+        Err(fault) => show_fault(out, &fault),
     }
-    Ok(out)
 }
 
 /// The same of a copy.
-pub fn copied_rules(alloc: Global, bytes: &[u8]) -> Result<String, Memory> {
-    let mut out = String::new(alloc);
+pub fn copied_rules(alloc: Global, bytes: &[u8], out: &mut Reply) {
     match copied(alloc, bytes) {
-        Ok(rules) => show_rules(&mut out, &rules)?,
-        Err(fault) => show_fault(&mut out, &fault)?,
+        Ok(rules) => show_rules(out, &rules),
+        Err(fault) => show_fault(out, &fault),
     }
-    Ok(out)
 }
 
 // The copy, which outlives the rules.
@@ -41,29 +38,30 @@ fn copied(alloc: Global, bytes: &[u8]) -> Result<Rules, RulesFault> {
 }
 
 /// What one definition `d` is read as, whose lines begin at line 3.
-pub fn definition(alloc: Global, bytes: &[u8]) -> Result<String, Memory> {
+pub fn definition(alloc: Global, bytes: &[u8], out: &mut Reply) -> Result<(), Memory> {
     let text = wrapped(alloc, b"bucket_definitions:\n  d:\n", bytes, b"")?;
-    rules(alloc, text.as_slice())
+    rules(alloc, text.as_slice(), out);
+    Ok(())
 }
 
 /// What a data query without parameters is read as that has this condition.
-pub fn condition(alloc: Global, bytes: &[u8]) -> Result<String, Memory> {
+pub fn condition(alloc: Global, bytes: &[u8], out: &mut Reply) -> Result<(), Memory> {
     let text = with_condition(alloc, bytes)?;
-    rules(alloc, text.as_slice())
+    rules(alloc, text.as_slice(), out);
+    Ok(())
 }
 
 /// How many branches that query has.
-pub fn branches(alloc: Global, bytes: &[u8]) -> Result<String, Memory> {
-    let mut out = String::new(alloc);
+pub fn branches(alloc: Global, bytes: &[u8], out: &mut Reply) -> Result<(), Memory> {
     let text = with_condition(alloc, bytes)?;
     if text.len() >= 4294967295 {
-        return Ok(out);
+        return Ok(());
     }
     match read_rules(alloc, text.as_slice()) {
-        Ok(rules) => write!(out, "{}", first_branches(&rules))?,
-        Err(fault) => show_fault(&mut out, &fault)?,
+        Ok(rules) => out.show(&first_branches(&rules)),
+        Err(fault) => show_fault(out, &fault),
     }
-    Ok(out)
+    Ok(())
 }
 
 fn with_condition(alloc: Global, bytes: &[u8]) -> Result<Vec<u8>, Memory> {
@@ -94,72 +92,76 @@ fn first_branches(rules: &Rules) -> usize {
     planned.branches.len()
 }
 
-fn show_rules(out: &mut Reply, rules: &Rules) -> Result<(), AllocError> {
+fn show_rules(out: &mut Reply, rules: &Rules) {
     'definitions: for definition in rules.definitions() {
-        show_definition(out, definition)?;
+        show_definition(out, definition);
     }
     'warnings: for warning in rules.warnings() {
-        show_warning(out, warning)?;
+        show_warning(out, warning);
     }
-    Ok(())
 }
 
-fn show_warning(out: &mut Reply, warning: &Warning) -> Result<(), AllocError> {
-    let kind = match warning.kind {
-        WarningKind::ClientParameters => "client-parameters",
-        WarningKind::NoData => "no-data",
-    };
-    write!(out, "{}:{} {kind}\n", warning.line, warning.column)
+fn show_warning(out: &mut Reply, warning: &Warning) {
+    out.show(&warning.line);
+    out.push(":");
+    out.show(&warning.column);
+    out.push(match warning.kind {
+        WarningKind::ClientParameters => " client-parameters\n",
+        WarningKind::NoData => " no-data\n",
+    });
 }
 
 // A definition: its name, its parameters' names, how many parameter queries it has, and each data query.
-fn show_definition(out: &mut Reply, definition: &Definition) -> Result<(), AllocError> {
-    write!(out, "{}(", definition.name.as_str())?;
+fn show_definition(out: &mut Reply, definition: &Definition) {
+    out.push(definition.name.as_str());
+    out.push("(");
     'names: for name in definition.names.as_slice() {
-        write!(out, " {}", name.as_str())?;
+        out.push(" ");
+        out.push(name.as_str());
     }
-    write!(out, " ) {}", definition.parameters.len())?;
+    out.push(" ) ");
+    out.show(&definition.parameters.len());
     'queries: for planned in definition.queries.as_slice() {
-        show_planned(out, planned)?;
+        show_planned(out, planned);
     }
-    out.push('\n')
+    out.push("\n");
 }
 
 // A data query: its number, and its branches.
-fn show_planned(out: &mut Reply, planned: &Planned) -> Result<(), AllocError> {
-    write!(out, " #{}", planned.number)?;
+fn show_planned(out: &mut Reply, planned: &Planned) {
+    out.push(" #");
+    out.show(&planned.number);
     'branches: for branch in planned.branches.as_slice() {
-        out.push('[')?;
-        show_branch(out, branch)?;
-        out.push_str(" ]")?;
+        show_branch(out, branch);
     }
-    Ok(())
 }
 
 // A branch: its matches with `=` or `in`, then its other leaves behind `:`.
-fn show_branch(out: &mut Reply, branch: &Branch) -> Result<(), AllocError> {
+fn show_branch(out: &mut Reply, branch: &Branch) {
+    out.push("[");
     'matches: for one in branch.matches.as_slice() {
-        show_match(out, one)?;
+        show_match(out, one);
     }
-    out.push(':')?;
+    out.push(":");
     'leaves: for leaf in branch.rest.as_slice() {
-        out.push(' ')?;
-        show(out, leaf)?;
+        out.push(" ");
+        show(out, leaf);
     }
-    Ok(())
+    out.push(" ]");
 }
 
-fn show_match(out: &mut Reply, one: &Match) -> Result<(), AllocError> {
-    let sign = if one.listed { " in " } else { "=" };
-    write!(out, " {}{sign}", one.name.as_str())?;
-    show(out, &one.other)
+fn show_match(out: &mut Reply, one: &Match) {
+    out.push(" ");
+    out.push(one.name.as_str());
+    out.push(if one.listed { " in " } else { "=" });
+    show(out, &one.other);
 }
 
 /// Calls the laws of branches, and that of what has no parameter.
-pub fn laws(alloc: Global) -> Result<String, Memory> {
+pub fn laws(out: &mut Reply) {
     spread_as_written();
     conditions_hold_where_a_branch_is_met();
     null_is_not_allowed();
     same_for_every_bucket();
-    Ok(String::from_str(alloc, "called")?)
+    out.push("called");
 }

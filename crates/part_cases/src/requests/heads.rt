@@ -1,7 +1,7 @@
 //! Heads of answers.
 
 use crate::requests::words::push_shown;
-use case_words::{Stop, cut, number_in};
+use case_words::{Reply, Stop, cut, number_in};
 use ps_http::write_head;
 use std::alloc::Global;
 
@@ -30,5 +30,6 @@ pub fn write_answer(alloc: Global, rest: &str, out: &mut Reply) -> Result<(), St
         Some(number_in(length)?)
     };
     let head = head_of(alloc, number_in(status)?, length)?;
-    push_shown(head.as_slice(), out)
+    push_shown(head.as_slice(), out);
+    Ok(())
 }

@@ -1,23 +1,27 @@
 //! Sources and clocks of the system.
 
-use crate::requests::reading::{name_of, write_fault, write_head};
-use crate::requests::words;
-use case_words::{Stop, cut, number_in, size_in};
-use ps_http::{read_body, read_head};
+use crate::requests::reading::{name_of, write_body, write_head};
+use case_words::{Reply, Stop, cut, number_in, size_in};
+use ps_http::read_head;
 use ps_io::{Clock, MemoryClock, Source, StdSource, WallClock};
 use std::alloc::Global;
 use std::io;
 use std::time::Duration;
 
 /// The head of a request that a reader of the system gives, and how often the source has failed.
-pub fn write_system(alloc: Global, request: &[u8], out: &mut Reply) -> Result<(), Stop> {
+pub fn write_system(alloc: Global, request: &[u8], out: &mut Reply) {
     let mut from = StdSource::new(request);
     match read_head(alloc, &mut from) {
-        Ok(head) => write_head(&head, out)?,
-        Err(fault) => out.push_str(name_of(fault))?,
+        Ok(head) => write_head(&head, out),
+        Err(fault) => out.push(name_of(fault)),
     }
-    write!(out, "; {} faults", from.read_faults())?;
-    Ok(())
+    write_faults(from.read_faults(), out);
+}
+
+fn write_faults(faults: u64, out: &mut Reply) {
+    out.push("; ");
+    out.show(&faults);
+    out.push(" faults");
 }
 
 // A reader that gives at most so many bytes at a time.
@@ -49,14 +53,8 @@ pub fn write_pieces(
         left: request,
         most,
     });
-    match read_head(alloc, &mut from) {
-        Ok(head) => match read_body(alloc, &head, &mut from) {
-            Ok(body) => words::push_shown(body.as_slice(), out)?,
-            Err(fault) => write_fault(fault, out)?,
-        },
-        Err(fault) => out.push_str(name_of(fault))?,
-    }
-    write!(out, "; {} faults", from.read_faults())?;
+    write_body(alloc, &mut from, out);
+    write_faults(from.read_faults(), out);
     Ok(())
 }
 
@@ -77,21 +75,19 @@ impl std::time::Clock for Unread {
 }
 
 /// What the clock gives of a system whose clocks cannot be read.
-pub fn write_unread(out: &mut Reply) -> Result<(), Stop> {
-    write!(out, "{}", WallClock::new(Unread).now())?;
-    Ok(())
+pub fn write_unread(out: &mut Reply) {
+    out.show(&WallClock::new(Unread).now());
 }
 
 /// In which thousand years the system's clock is.
-pub fn write_clock<R: std::time::Clock + Drop>(rt: R, out: &mut Reply) -> Result<(), Stop> {
+pub fn write_clock<R: std::time::Clock + Drop>(rt: R, out: &mut Reply) {
     // The starts of the years 2000 and 3000.
     let now = WallClock::new(rt).now();
     if (946684800..32503680000).contains(&now) {
-        out.push_str("third")?;
+        out.push("third");
     } else {
-        out.push_str("another")?;
+        out.push("another");
     }
-    Ok(())
 }
 
 /// What a clock in memory gives, asked three times.
@@ -101,6 +97,10 @@ pub fn write_moments(words: &str, out: &mut Reply) -> Result<(), Stop> {
     let first = clock.now();
     let second = clock.now();
     let third = clock.now();
-    write!(out, "{first} {second} {third}")?;
+    out.show(&first);
+    out.push(" ");
+    out.show(&second);
+    out.push(" ");
+    out.show(&third);
     Ok(())
 }

@@ -1,7 +1,7 @@
 //! Requests that are read from sources in memory.
 
 use crate::requests::words;
-use case_words::Stop;
+use case_words::{Reply, Stop};
 use ps_data::{Items, Text};
 use ps_http::{BodyFault, Head, HeadFault, read_body, read_head};
 use ps_io::{MemorySource, Source};
@@ -33,44 +33,61 @@ pub fn name_of(fault: HeadFault) -> &'static str {
     }
 }
 
-/// Writes the name of a body's fault.
-pub fn write_fault(fault: BodyFault, out: &mut Reply) -> Result<(), Stop> {
+// Writes the name of a body's fault.
+fn write_fault(fault: BodyFault, out: &mut Reply) {
     match fault {
-        BodyFault::LengthRequired => out.push_str("length-required")?,
-        BodyFault::BodyTooLong { length } => write!(out, "body-too-long {length}")?,
-        BodyFault::CutShort => out.push_str("cut-short")?,
-        BodyFault::ReadFault => out.push_str("read-fault")?,
-        BodyFault::Memory => out.push_str("memory")?,
+        BodyFault::LengthRequired => out.push("length-required"),
+        BodyFault::BodyTooLong { length } => {
+            out.push("body-too-long ");
+            out.show(&length);
+        }
+        BodyFault::CutShort => out.push("cut-short"),
+        BodyFault::ReadFault => out.push("read-fault"),
+        BodyFault::Memory => out.push("memory"),
     }
-    Ok(())
 }
 
-fn write_authorization(value: &Option<Text>, out: &mut Reply) -> Result<(), Stop> {
-    match value {
-        Some(value) => {
-            out.push_str(" [")?;
-            words::push_shown(value.bytes(), out)?;
-            out.push_str("]")?;
-        }
-        None => out.push_str(" none")?,
-    }
-    Ok(())
+fn write_part(part: &Text, out: &mut Reply) {
+    out.push(" [");
+    words::push_shown(part.bytes(), out);
+    out.push("]");
 }
 
 /// The method, the path, the query, the authorization, the length and whether the body is chunked.
-pub fn write_head(head: &Head, out: &mut Reply) -> Result<(), Stop> {
-    out.push_str(head.method.as_str())?;
-    out.push_str(" [")?;
-    words::push_shown(head.path.bytes(), out)?;
-    out.push_str("] [")?;
-    words::push_shown(head.query.bytes(), out)?;
-    out.push_str("]")?;
-    write_authorization(&head.authorization, out)?;
-    match head.length {
-        Some(length) => write!(out, " {length}")?,
-        None => out.push_str(" none")?,
+pub fn write_head(head: &Head, out: &mut Reply) {
+    out.push(head.method.as_str());
+    write_part(&head.path, out);
+    write_part(&head.query, out);
+    match &head.authorization {
+        Some(authorization) => write_part(authorization, out),
+        None => out.push(" none"),
     }
-    out.push_str(if head.chunked { " chunked" } else { " plain" })?;
+    match head.length {
+        Some(length) => {
+            out.push(" ");
+            out.show(&length);
+        }
+        None => out.push(" none"),
+    }
+    out.push(if head.chunked { " chunked" } else { " plain" });
+}
+
+/// The body of a request, or the fault of its head or of its body.
+pub fn write_body<S: Source>(alloc: Global, from: &mut S, out: &mut Reply) {
+    match read_head(alloc, from) {
+        Ok(head) => match read_body(alloc, &head, from) {
+            Ok(body) => words::push_shown(body.as_slice(), out),
+            Err(fault) => write_fault(fault, out),
+        },
+        Err(fault) => out.push(name_of(fault)),
+    }
+}
+
+fn write_left(alloc: Global, from: &mut MemorySource, out: &mut Reply) -> Result<(), Stop> {
+    let count = left(alloc, from)?;
+    out.push("; ");
+    out.show(&count);
+    out.push(" left");
     Ok(())
 }
 
@@ -83,10 +100,10 @@ pub fn write_head_read(
 ) -> Result<(), Stop> {
     let mut from = source(alloc, bytes, words::numbers(alloc, failing)?)?;
     match read_head(alloc, &mut from) {
-        Ok(head) => write_head(&head, out)?,
-        Err(fault) => out.push_str(name_of(fault))?,
+        Ok(head) => write_head(&head, out),
+        Err(fault) => out.push(name_of(fault)),
     }
-    Ok(write!(out, "; {} left", left(alloc, &mut from)?)?)
+    write_left(alloc, &mut from, out)
 }
 
 /// The body of a request, and how many bytes are left behind it.
@@ -97,14 +114,8 @@ pub fn write_body_read(
     out: &mut Reply,
 ) -> Result<(), Stop> {
     let mut from = source(alloc, bytes, words::numbers(alloc, failing)?)?;
-    match read_head(alloc, &mut from) {
-        Ok(head) => match read_body(alloc, &head, &mut from) {
-            Ok(body) => words::push_shown(body.as_slice(), out)?,
-            Err(fault) => write_fault(fault, out)?,
-        },
-        Err(fault) => out.push_str(name_of(fault))?,
-    }
-    Ok(write!(out, "; {} left", left(alloc, &mut from)?)?)
+    write_body(alloc, &mut from, out);
+    write_left(alloc, &mut from, out)
 }
 
 // Whether a request is refused for that reason, with so many bytes left.
@@ -133,7 +144,11 @@ pub fn write_cuts(alloc: Global, bytes: &[u8], out: &mut Reply) -> Result<(), St
             other = other.saturating_add(1);
         }
     }
-    Ok(write!(out, "{short} cut-short, {other} other")?)
+    out.show(&short);
+    out.push(" cut-short, ");
+    out.show(&other);
+    out.push(" other");
+    Ok(())
 }
 
 /// How often a request whose source fails at one call is a read fault that takes what came before, and how often not.
@@ -150,5 +165,9 @@ pub fn write_faults(alloc: Global, bytes: &[u8], out: &mut Reply) -> Result<(), 
             other = other.saturating_add(1);
         }
     }
-    Ok(write!(out, "{failed} read-fault, {other} other")?)
+    out.show(&failed);
+    out.push(" read-fault, ");
+    out.show(&other);
+    out.push(" other");
+    Ok(())
 }

@@ -1,6 +1,6 @@
 //! The words of a line, and the bytes that a text spells.
 
-use case_words::{Stop, number_in};
+use case_words::{Reply, Stop, number_in};
 use std::alloc::Global;
 
 /// The number that a word gives, or none for `-`.
@@ -13,10 +13,12 @@ pub fn numbers(alloc: Global, word: &str) -> Result<Vec<u64>, Stop> {
 }
 
 /// Writes bytes as they are spelled, or how many they are where they are more than 300.
-pub fn push_shown(bytes: &[u8], out: &mut Reply) -> Result<(), Stop> {
+pub fn push_shown(bytes: &[u8], out: &mut Reply) {
     if bytes.len() > 300 {
-        write!(out, "({} bytes)", bytes.len())?;
-        return Ok(());
+        out.push("(");
+        out.show(&bytes.len());
+        out.push(" bytes)");
+    } else {
+        out.spell(bytes);
     }
-    Ok(case_words::push_shown(bytes, out)?)
 }
