@@ -1,5 +1,6 @@
 //! Lines and changes that are written. What is written here is not read first, as targets of operations, which no line tells.
 
+use case_words::Reply;
 use ps_bucket_log::{Key, Op};
 use ps_changes::{read_change, write_change};
 use ps_checksum::Sum;
@@ -9,73 +10,83 @@ use ps_rows::{Change, Transaction};
 use std::alloc::Global;
 
 /// Bytes as text.
-pub fn shown_bytes(alloc: Global, bytes: &[u8]) -> Result<String, Memory> {
+pub fn show_bytes(out: &mut Reply, bytes: &[u8]) {
     match str::from_utf8(bytes) {
-        Ok(text) => Ok(String::from_str(alloc, text)?),
-        Err(_) => Ok(String::from_str(alloc, "not UTF-8")?),
+        Ok(text) => out.push(text),
+        Err(_) => out.push("not UTF-8"),
     }
 }
 
 /// The bytes that a change is written as.
-pub fn written_change(alloc: Global, bytes: &[u8]) -> Result<String, Memory> {
+pub fn written_change(alloc: Global, bytes: &[u8], out: &mut Reply) -> Result<(), Memory> {
     match read_change(alloc, bytes) {
-        Ok(change) => written_again(alloc, &change),
-        Err(fault) => Ok(format!(in alloc; "{fault:?}")?),
+        Ok(change) => show_again(alloc, &change, out)?,
+        Err(fault) => out.debug(&fault),
     }
+    Ok(())
 }
 
-fn written_again(alloc: Global, change: &Change) -> Result<String, Memory> {
+fn show_again(alloc: Global, change: &Change, out: &mut Reply) -> Result<(), Memory> {
     if change.table.bytes().is_empty() {
-        return Ok(String::from_str(alloc, "no table")?);
+        out.push("no table");
+    } else {
+        show_bytes(out, write_change(alloc, change)?.as_slice());
     }
-    shown_bytes(alloc, write_change(alloc, change)?.as_slice())
+    Ok(())
 }
 
 /// The bytes of the line that a word names: one of each kind, and a transaction.
-pub fn written(alloc: Global, bytes: &[u8]) -> Result<String, Memory> {
-    let written = match bytes {
-        b"checkpoint" => checkpoint(alloc),
-        b"diff" => diff(alloc),
-        b"data" => data(alloc),
-        b"complete" => write_line(alloc, &Line::Complete { last_op: OpId(7) }),
-        b"expires" => write_line(alloc, &Line::Expires { seconds: 60 }),
-        b"transaction" => transaction(alloc),
-        _ => Ok(Vec::new(alloc)),
-    };
-    shown_bytes(alloc, written?.as_slice())
+pub fn written(alloc: Global, bytes: &[u8], out: &mut Reply) -> Result<(), Memory> {
+    let word = str::from_utf8(bytes).unwrap_or("");
+    show_bytes(out, line_of(alloc, word)?.as_slice());
+    Ok(())
 }
 
-fn checkpoint(alloc: Global) -> Result<Vec<u8>, Memory> {
-    let mut buckets = Items::new(alloc);
-    buckets.push(Entry {
+fn line_of(alloc: Global, word: &str) -> Result<Vec<u8>, Memory> {
+    match word {
+        "checkpoint" => checkpoint(alloc),
+        "diff" => diff(alloc),
+        "data" => data(alloc),
+        "complete" => write_line(alloc, &Line::Complete { last_op: OpId(7) }),
+        "expires" => write_line(alloc, &Line::Expires { seconds: 60 }),
+        "transaction" => transaction(alloc),
+        _ => Ok(Vec::new(alloc)),
+    }
+}
+
+// The entry of an empty bucket.
+fn entries(alloc: Global) -> Result<Items<Entry>, Memory> {
+    let mut entries = Items::new(alloc);
+    entries.push(Entry {
         bucket: Text::from_str(alloc, "b")?,
         sum: Sum(0),
         count: 0,
         priority: 3,
     })?;
+    Ok(entries)
+}
+
+fn removed(alloc: Global) -> Result<Items<Text>, Memory> {
+    let mut removed = Items::new(alloc);
+    removed.push(Text::from_str(alloc, "a")?)?;
+    Ok(removed)
+}
+
+fn checkpoint(alloc: Global) -> Result<Vec<u8>, Memory> {
     let line = Line::Checkpoint {
         last_op: OpId(7),
         number: Some(1),
-        buckets,
+        buckets: entries(alloc)?,
     };
     write_line(alloc, &line)
 }
 
 fn diff(alloc: Global) -> Result<Vec<u8>, Memory> {
-    let mut removed = Items::new(alloc);
-    removed.push(Text::from_str(alloc, "a")?)?;
-    let mut updated = Items::new(alloc);
-    updated.push(Entry {
-        bucket: Text::from_str(alloc, "b")?,
-        sum: Sum(0),
-        count: 0,
-        priority: 3,
-    })?;
     let line = Line::Diff {
         last_op: OpId(9),
         number: None,
-        removed,
-        updated,
+        removed: removed(alloc)?,
+        updated: entries(alloc)?,
     };
     write_line(alloc, &line)
 }
@@ -88,20 +99,28 @@ fn key(alloc: Global) -> Result<Key, Memory> {
     })
 }
 
-// The operations 1, 2, 6 and 7, with targets of 6 and 7.
-fn data(alloc: Global) -> Result<Vec<u8>, Memory> {
-    let mut ops = Items::new(alloc);
-    ops.push(Op::Put {
+fn put(alloc: Global) -> Result<Op, Memory> {
+    Ok(Op::Put {
         id: OpId(1),
         key: key(alloc)?,
         content: Text::from_str(alloc, "{}")?,
         sum: Sum(1),
-    })?;
-    ops.push(Op::Remove {
+    })
+}
+
+fn remove(alloc: Global) -> Result<Op, Memory> {
+    Ok(Op::Remove {
         id: OpId(2),
         key: key(alloc)?,
         sum: Sum(2),
-    })?;
+    })
+}
+
+// The operations 1, 2, 6 and 7, with targets of 6 and 7.
+fn ops(alloc: Global) -> Result<Items<Op>, Memory> {
+    let mut ops = Items::new(alloc);
+    ops.push(put(alloc)?)?;
+    ops.push(remove(alloc)?)?;
     ops.push(Op::Move {
         id: OpId(6),
         sum: Sum(3),
@@ -112,11 +131,15 @@ fn data(alloc: Global) -> Result<Vec<u8>, Memory> {
         sum: Sum(4),
         target: Some(OpId(8)),
     })?;
+    Ok(ops)
+}
+
+fn data(alloc: Global) -> Result<Vec<u8>, Memory> {
     let line = Line::Data {
         bucket: Text::from_str(alloc, "b")?,
         after: OpId(0),
         has_more: false,
-        ops,
+        ops: ops(alloc)?,
         next_after: OpId(7),
     };
     write_line(alloc, &line)
