@@ -115,14 +115,13 @@ fn answer(
     out: &mut Reply,
 ) -> Result<(), Stop> {
     let (word, rest) = cut(line);
-    if streams::answer(alloc, client, word, rest, out)? {
-        return Ok(());
+    match word {
+        "#" => {
+            out.push(line);
+            Ok(())
+        }
+        _ => streams::answer(alloc, client, word, rest, out),
     }
-    if locals::answer(alloc, client, word, rest, out)? {
-        return Ok(());
-    }
-    out.push(line);
-    Ok(())
 }
 
 fn answer_open(

@@ -16,7 +16,7 @@ mod written;
 mod yaml;
 
 use crate::lines::print_line;
-use case_words::Stop;
+use case_words::{Reply, Stop};
 use cases::push_answer;
 use evaluations::Asking;
 

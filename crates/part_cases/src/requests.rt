@@ -62,19 +62,24 @@ fn answer(
     out: &mut Reply,
 ) -> Result<(), Stop> {
     match word {
-        "head" => reading::write_head_read(alloc, request, rest, out)?,
-        "body" => reading::write_body_read(alloc, request, rest, out)?,
-        "system" => outside::write_system(alloc, request, out),
-        "pieces" => outside::write_pieces(alloc, rest, request, out)?,
-        "cuts" => reading::write_cuts(alloc, request, out)?,
-        "faults" => reading::write_faults(alloc, request, out)?,
-        "query" => write_value(alloc, rest, out)?,
-        "answer" => heads::write_answer(alloc, rest, out)?,
-        "moments" => outside::write_moments(rest, out)?,
-        "unread" => outside::write_unread(out),
-        _ => return Err("no such case".into()),
+        "head" => reading::write_head_read(alloc, request, rest, out),
+        "body" => reading::write_body_read(alloc, request, rest, out),
+        "pieces" => outside::write_pieces(alloc, rest, request, out),
+        "cuts" => reading::write_cuts(alloc, request, out),
+        "faults" => reading::write_faults(alloc, request, out),
+        "query" => write_value(alloc, rest, out),
+        "answer" => heads::write_answer(alloc, rest, out),
+        "moments" => outside::write_moments(rest, out),
+        "system" => {
+            outside::write_system(alloc, request, out);
+            Ok(())
+        }
+        "unread" => {
+            outside::write_unread(out);
+            Ok(())
+        }
+        _ => Err(Stop),
     }
-    Ok(())
 }
 
 /// Answers the cases.

@@ -46,6 +46,11 @@ pub fn write_quoted(alloc: Global, text: &[u8], out: &mut Reply) -> Result<(), S
     Ok(())
 }
 
+/// The same for the text of bytes.
+pub fn write_quoted_bytes(alloc: Global, digits: &str, out: &mut Reply) -> Result<(), Stop> {
+    write_quoted(alloc, bytes(alloc, digits)?.as_slice(), out)
+}
+
 /// What JSON is as a value.
 pub fn write_json(alloc: Global, text: &[u8], out: &mut Reply) -> Result<(), Stop> {
     match read_json(alloc, text)? {
@@ -65,6 +70,11 @@ fn write_value_of(alloc: Global, json: &Json, out: &mut Reply) -> Result<(), Sto
         Err(ValueFault::Memory) => return Err(Stop),
     }
     Ok(())
+}
+
+/// The same for the JSON of bytes.
+pub fn write_json_bytes(alloc: Global, digits: &str, out: &mut Reply) -> Result<(), Stop> {
+    write_json(alloc, bytes(alloc, digits)?.as_slice(), out)
 }
 
 /// The number of a decimal text.

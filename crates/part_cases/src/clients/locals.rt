@@ -45,21 +45,21 @@ fn write_number(
     Ok(())
 }
 
-/// Answers a step; false where the word begins none.
+/// Answers a step of local writes.
 pub fn answer(
     alloc: Global,
     client: &mut Client<MemoryKeeper>,
     word: &str,
     rest: &str,
     out: &mut Reply,
-) -> Result<bool, Stop> {
+) -> Result<(), Stop> {
     match word {
-        "local" => write_locally(alloc, client, rest, out)?,
-        "upload" => write_upload(alloc, client, out)?,
+        "local" => return write_locally(alloc, client, rest, out),
+        "upload" => return write_upload(alloc, client, out),
+        "number" => return write_number(alloc, client, rest, out),
         "uploaded" => write_done(client.uploaded(alloc), out),
-        "number" => write_number(alloc, client, rest, out)?,
         "pending" => out.show(&client.pending()),
-        _ => return Ok(false),
+        _ => return Err(Stop),
     }
-    Ok(true)
+    Ok(())
 }

@@ -1,6 +1,7 @@
 //! Steps of a stream.
 
 use crate::clients::events::{write_event, write_fault};
+use crate::clients::locals;
 use case_words::{Reply, Stop};
 use ps_client::Client;
 use ps_client_log::{MemoryKeeper, Shown};
@@ -44,20 +45,25 @@ fn write_rows(alloc: Global, client: &Client<MemoryKeeper>, out: &mut Reply) -> 
     Ok(())
 }
 
-/// Answers a step; false where the word begins none.
+/// Answers a step of a stream, or one of local writes.
 pub fn answer(
     alloc: Global,
     client: &mut Client<MemoryKeeper>,
     word: &str,
     rest: &str,
     out: &mut Reply,
-) -> Result<bool, Stop> {
+) -> Result<(), Stop> {
     match word {
-        "request" => write_request(alloc, client, out)?,
-        "line" => write_taken(alloc, client, rest, out),
-        "rows" => write_rows(alloc, client, out)?,
-        "matches" => out.show(&client.matches()),
-        _ => return Ok(false),
+        "request" => write_request(alloc, client, out),
+        "rows" => write_rows(alloc, client, out),
+        "line" => {
+            write_taken(alloc, client, rest, out);
+            Ok(())
+        }
+        "matches" => {
+            out.show(&client.matches());
+            Ok(())
+        }
+        _ => locals::answer(alloc, client, word, rest, out),
     }
-    Ok(true)
 }
