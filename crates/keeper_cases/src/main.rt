@@ -1,6 +1,6 @@
 //! Answers the cases of its standard input, each a line, of a client whose state is kept in a database in memory.
 //!
-//! `new` begins with an empty database. Before each of the steps below the database's tables are opened anew, and a client over them; both are closed after it.
+//! `new` begins with an empty database, over a disk in memory. Before each of the steps below the database's tables are opened anew, and a client over them; both are closed after it.
 //!
 //! - `stream LINE..` begins a stream, prints its request, takes the lines, and prints what the client says to each.
 //! - `local CHANGE` writes locally, `upload` prints the next upload's body, `uploaded` lets it leave the queue, `number N` sets the write checkpoint, `rows` prints
@@ -23,15 +23,19 @@ mod desks;
 mod events;
 mod refusals;
 mod shown;
+mod stores;
 
-use case_words::{Stop, cut};
+use case_words::{Reply, Stop, cut};
 use desks::Desk;
 use std::alloc::Global;
 
-fn answer(alloc: Global, desk: &mut Desk, line: &str, out: &mut String) -> Result<(), Stop> {
+fn answer(alloc: Global, desk: &mut Desk, line: &str, out: &mut Reply) -> Result<(), Stop> {
     let (word, rest) = cut(line);
     match word {
-        "#" => Ok(out.push_str(line)?),
+        "#" => {
+            out.push(line);
+            Ok(())
+        }
         "crash" => crashes::write_crashes(alloc, rest, out),
         "refused" => refusals::write_refusal(alloc, rest, out),
         _ => desk.step(alloc, word, rest, out),
@@ -41,11 +45,13 @@ fn answer(alloc: Global, desk: &mut Desk, line: &str, out: &mut String) -> Resul
 fn answer_all(rt: HostRuntime) -> Result<(), Stop> {
     let alloc = rt.alloc();
     let mut desk = Desk::new();
+    let mut out = Reply::new(alloc);
     'lines: for line in rt.lines(alloc) {
         let line = line?;
-        let mut out = String::new(alloc);
+        out.clear();
         answer(alloc, &mut desk, line.as_str(), &mut out)?;
-        println!(rt; "{}", out.as_str())?;
+        let text = out.text()?;
+        println!(rt; "{text}")?;
     }
     Ok(())
 }

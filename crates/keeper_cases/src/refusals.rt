@@ -1,6 +1,6 @@
 //! What `sync` says of a file that is refused.
 
-use case_words::{Stop, push_escaped, short_number_in};
+use case_words::{Reply, Stop, short_number_in};
 use ps_client_file::store_status;
 use ps_client_sqlite::StoreFault;
 use ps_data::Items;
@@ -22,10 +22,11 @@ fn fault_in(word: &str) -> Result<StoreFault, Stop> {
 }
 
 /// Writes the status for a fault, and what is said of it.
-pub fn write_refusal(alloc: Global, word: &str, out: &mut String) -> Result<(), Stop> {
+pub fn write_refusal(alloc: Global, word: &str, out: &mut Reply) -> Result<(), Stop> {
     let mut err = MemorySink::new(alloc, ROOM, Items::new(alloc))?;
     let status = store_status(&fault_in(word)?, &mut err);
-    write!(out, "{status} ")?;
-    push_escaped(out, str::from_utf8(err.bytes())?)?;
+    out.show(&status);
+    out.push(" ");
+    out.escape(str::from_utf8(err.bytes())?);
     Ok(())
 }

@@ -1,137 +1,144 @@
 //! What a client keeps, and what its tables have, as text.
 
-use case_words::Stop;
+use crate::stores::Store;
+use case_words::{Reply, Stop};
 use ps_client::Client;
-use ps_client_log::{BucketState, Keeper, Shown, State, Target};
+use ps_client_log::{BucketState, Held, Keeper, Shown, State, Target};
 use ps_client_sqlite::StoreFault;
 use ps_client_tables::{read_aim, read_buckets, read_entries, read_queue, read_shown};
 use ps_rows::Change;
 use sqlite::types::ValueRef;
-use sqlite::{Alter, Connection, Row};
+use sqlite::{Connection, Row};
 use std::alloc::Global;
 
 /// Writes why a store was not opened.
-pub fn write_store_fault(fault: StoreFault, out: &mut String) -> Result<(), Stop> {
+pub fn write_store_fault(fault: StoreFault, out: &mut Reply) {
     match fault {
-        StoreFault::Failed => out.push_str("failed")?,
-        StoreFault::BadState { table } => write!(out, "bad state {table}")?,
-        StoreFault::Memory => out.push_str("no memory")?,
+        StoreFault::Failed => out.push("failed"),
+        StoreFault::BadState { table } => {
+            out.push("bad state ");
+            out.show(&table);
+        }
+        StoreFault::Memory => out.push("no memory"),
     }
-    Ok(())
 }
 
-fn write_bucket(bucket: &BucketState, out: &mut String) -> Result<(), Stop> {
-    write!(
-        out,
-        "bucket {} {} {}",
-        bucket.name.as_str(),
-        bucket.position.0,
-        bucket.added.0
-    )?;
+fn write_word(word: &str, out: &mut Reply) {
+    out.push(" ");
+    out.push(word);
+}
+
+fn write_number(number: u64, out: &mut Reply) {
+    out.push(" ");
+    out.show(&number);
+}
+
+fn write_held(held: &Held, out: &mut Reply) {
+    out.push(" (");
+    out.push(held.key.kind.as_str());
+    write_word(held.key.id.as_str(), out);
+    write_word(held.key.subkey.as_str(), out);
+    write_number(held.id.0, out);
+    write_word(held.content.as_str(), out);
+    write_number(u64::from(held.sum.0), out);
+    out.push(")");
+}
+
+fn write_bucket(bucket: &BucketState, out: &mut Reply) {
+    out.push("bucket");
+    write_word(bucket.name.as_str(), out);
+    write_number(bucket.position.0, out);
+    write_number(u64::from(bucket.added.0), out);
     'held: for held in bucket.held.as_slice() {
-        write!(
-            out,
-            " ({} {} {} {} {} {})",
-            held.key.kind.as_str(),
-            held.key.id.as_str(),
-            held.key.subkey.as_str(),
-            held.id.0,
-            held.content.as_str(),
-            held.sum.0
-        )?;
+        write_held(held, out);
     }
-    Ok(out.push_str("; ")?)
+    out.push("; ");
 }
 
-fn write_change(change: &Change, out: &mut String) -> Result<(), Stop> {
-    let done = if change.row.is_some() {
+fn write_change(change: &Change, out: &mut Reply) {
+    out.push(if change.row.is_some() {
         "put"
     } else {
         "delete"
-    };
-    write!(
-        out,
-        "{done} {} {}; ",
-        change.table.as_str(),
-        change.id.as_str()
-    )?;
-    Ok(())
+    });
+    write_word(change.table.as_str(), out);
+    write_word(change.id.as_str(), out);
+    out.push("; ");
 }
 
-fn write_target(target: Target, out: &mut String) -> Result<(), Stop> {
+fn write_target(target: Target, out: &mut Reply) {
     match target {
-        Target::Free => out.push_str("free")?,
-        Target::Pending => out.push_str("pending")?,
-        Target::Number(number) => write!(out, "number {number}")?,
+        Target::Free => out.push("free"),
+        Target::Pending => out.push("pending"),
+        Target::Number(number) => {
+            out.push("number ");
+            out.show(&number);
+        }
     }
-    Ok(())
 }
 
-fn write_row(row: &Shown, out: &mut String) -> Result<(), Stop> {
-    write!(
-        out,
-        "; {} {} {}",
-        row.kind.as_str(),
-        row.id.as_str(),
-        row.content.as_str()
-    )?;
-    Ok(())
+fn write_row(row: &Shown, out: &mut Reply) {
+    out.push(";");
+    write_word(row.kind.as_str(), out);
+    write_word(row.id.as_str(), out);
+    write_word(row.content.as_str(), out);
 }
 
 /// Writes a state.
-pub fn write_state(state: &State, out: &mut String) -> Result<(), Stop> {
+pub fn write_state(state: &State, out: &mut Reply) {
     'buckets: for bucket in state.buckets.as_slice() {
-        write_bucket(bucket, out)?;
+        write_bucket(bucket, out);
     }
     'queue: for change in state.queue.as_slice() {
-        write_change(change, out)?;
+        write_change(change, out);
     }
-    write_target(state.target, out)?;
+    write_target(state.target, out);
     'shown: for row in state.shown.as_slice() {
-        write_row(row, out)?;
+        write_row(row, out);
     }
-    Ok(())
 }
 
 /// Writes the rows of a client.
 pub fn write_rows<K: Keeper>(
     alloc: Global,
     client: &Client<K>,
-    out: &mut String,
+    out: &mut Reply,
 ) -> Result<(), Stop> {
     let rows = client.rows(alloc)?;
-    write!(out, "rows {}", rows.len())?;
+    out.push("rows");
+    out.push(" ");
+    out.show(&rows.len());
     'rows: for row in rows.as_slice() {
-        write_row(row, out)?;
+        write_row(row, out);
     }
     Ok(())
 }
 
-fn write_value(row: &Row, at: usize, out: &mut String) -> Result<(), Stop> {
+fn write_value(row: &Row, at: usize, out: &mut Reply) -> Result<(), Stop> {
+    out.push(" ");
     match row.get_ref(at)? {
-        ValueRef::Int(number) => write!(out, " {number}")?,
-        ValueRef::Text(bytes) => write!(out, " {}", str::from_utf8(bytes)?)?,
-        _ => out.push_str(" ?")?,
+        ValueRef::Int(number) => out.show(&number),
+        ValueRef::Text(bytes) => out.push(str::from_utf8(bytes)?),
+        _ => out.push("?"),
     }
     Ok(())
 }
 
-fn write_table(name: &str, rows: &[Row], out: &mut String) -> Result<(), Stop> {
-    write!(out, "{name}:")?;
+fn write_table(name: &str, rows: &[Row], out: &mut Reply) -> Result<(), Stop> {
+    out.push(name);
+    out.push(":");
     'rows: for row in rows {
         'columns: for at in 0..row.column_count() {
             write_value(row, at, out)?;
         }
-        out.push_str(",")?;
+        out.push(",");
     }
-    Ok(out.push_str("; ")?)
+    out.push("; ");
+    Ok(())
 }
 
 /// Writes the rows of all tables.
-pub fn write_tables<S: Alter>(
-    connection: &mut Connection<S>,
-    out: &mut String,
-) -> Result<(), Stop> {
+pub fn write_tables(connection: &mut Connection<Store>, out: &mut Reply) -> Result<(), Stop> {
     write_table("buckets", read_buckets(connection)?.as_slice(), out)?;
     write_table("entries", read_entries(connection)?.as_slice(), out)?;
     write_table("queue", read_queue(connection)?.as_slice(), out)?;
