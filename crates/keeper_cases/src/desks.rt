@@ -1,40 +1,37 @@
-//! A database in memory, and a client over it that is opened for each step.
+//! A database over a disk in memory, and a client over it that is opened for each step.
 
 use crate::events::{write_done, write_event, write_fault};
 use crate::shown::{write_rows, write_state, write_store_fault, write_tables};
-use case_words::{Stop, number_in};
+use crate::stores::{Store, connected, empty};
+use case_words::{Reply, Stop, number_in};
 use ps_changes::read_change;
 use ps_client::Client;
 use ps_client_log::Keeper;
-use ps_client_sqlite::{SqliteKeeper, StoreFault};
+use ps_client_sqlite::SqliteKeeper;
 use ps_data::{GREATEST, Text};
 use ps_lines::write_body;
-use sqlite::{Alter, Connection, MemStore};
+use sqlite::Connection;
 use std::alloc::Global;
 
-/// A database in memory, where one is open.
+/// A database, where one is open.
 #[derive(Drop)]
 pub struct Desk {
-    connection: Option<Connection<MemStore>>,
+    connection: Option<Connection<Store>>,
 }
 
 fn write_request<K: Keeper>(
     alloc: Global,
     client: &mut Client<K>,
-    out: &mut String,
+    out: &mut Reply,
 ) -> Result<(), Stop> {
     let body = client.request(alloc)?;
     let bytes = write_body(alloc, &body)?;
-    Ok(out.push_str(str::from_utf8(bytes.as_slice())?)?)
+    out.push(str::from_utf8(bytes.as_slice())?);
+    Ok(())
 }
 
-fn write_taken<K: Keeper>(
-    alloc: Global,
-    client: &mut Client<K>,
-    line: &str,
-    out: &mut String,
-) -> Result<(), Stop> {
-    out.push_str("; ")?;
+fn write_taken<K: Keeper>(alloc: Global, client: &mut Client<K>, line: &str, out: &mut Reply) {
+    out.push("; ");
     match client.take_line(alloc, line.as_bytes()) {
         Ok(event) => write_event(&event, out),
         Err(fault) => write_fault(fault, out),
@@ -45,11 +42,11 @@ fn write_stream<K: Keeper>(
     alloc: Global,
     client: &mut Client<K>,
     lines: &str,
-    out: &mut String,
+    out: &mut Reply,
 ) -> Result<(), Stop> {
     write_request(alloc, client, out)?;
     'lines: for line in lines.split(' ') {
-        write_taken(alloc, client, line, out)?;
+        write_taken(alloc, client, line, out);
     }
     Ok(())
 }
@@ -58,36 +55,37 @@ fn write_locally<K: Keeper>(
     alloc: Global,
     client: &mut Client<K>,
     change: &str,
-    out: &mut String,
+    out: &mut Reply,
 ) -> Result<(), Stop> {
     match read_change(alloc, change.as_bytes()) {
-        Ok(change) => write_done(client.write_local(alloc, change), out),
-        Err(_) => Err("this is no change".into()),
+        Ok(change) => {
+            write_done(client.write_local(alloc, change), out);
+            Ok(())
+        }
+        Err(_) => Err(Stop),
     }
 }
 
-fn write_upload<K: Keeper>(
-    alloc: Global,
-    client: &Client<K>,
-    out: &mut String,
-) -> Result<(), Stop> {
+fn write_upload<K: Keeper>(alloc: Global, client: &Client<K>, out: &mut Reply) -> Result<(), Stop> {
     match client.upload_next(alloc)? {
-        Some(body) => Ok(out.push_str(str::from_utf8(body.as_slice())?)?),
-        None => Ok(out.push_str("none")?),
+        Some(body) => out.push(str::from_utf8(body.as_slice())?),
+        None => out.push("none"),
     }
+    Ok(())
 }
 
 fn write_number<K: Keeper>(
     alloc: Global,
     client: &mut Client<K>,
     number: &str,
-    out: &mut String,
+    out: &mut Reply,
 ) -> Result<(), Stop> {
     let number = number_in(number)?;
     if number > GREATEST {
-        return Err("the number is too great".into());
+        return Err(Stop);
     }
-    write_done(client.set_write_checkpoint(alloc, number), out)
+    write_done(client.set_write_checkpoint(alloc, number), out);
+    Ok(())
 }
 
 /// Takes a step of a client.
@@ -96,16 +94,19 @@ pub fn write_step<K: Keeper>(
     client: &mut Client<K>,
     word: &str,
     rest: &str,
-    out: &mut String,
+    out: &mut Reply,
 ) -> Result<(), Stop> {
     match word {
         "stream" => write_stream(alloc, client, rest, out),
         "local" => write_locally(alloc, client, rest, out),
         "upload" => write_upload(alloc, client, out),
-        "uploaded" => write_done(client.uploaded(alloc), out),
         "number" => write_number(alloc, client, rest, out),
         "rows" => write_rows(alloc, client, out),
-        _ => Err("no such step".into()),
+        "uploaded" => {
+            write_done(client.uploaded(alloc), out);
+            Ok(())
+        }
+        _ => Err(Stop),
     }
 }
 
@@ -114,23 +115,32 @@ pub fn opened<K: Keeper + Drop>(alloc: Global, keeper: K) -> Result<Client<K>, S
     let name = Text::from_str(alloc, "c")?;
     match Client::open(alloc, keeper, name) {
         Ok(client) => Ok(client),
-        Err((_keeper, _fault)) => Err("the keeper does not load".into()),
+        Err((_keeper, _fault)) => Err(Stop),
     }
 }
 
-fn write_told<S: Alter + Drop>(
+// The state that a keeper tells.
+fn write_kept<K: Keeper>(alloc: Global, keeper: &mut K, out: &mut Reply) -> Result<(), Stop> {
+    match keeper.load(alloc) {
+        Ok(state) => {
+            write_state(&state, out);
+            Ok(())
+        }
+        Err(_fault) => Err(Stop),
+    }
+}
+
+// Takes a step of a client over a keeper.
+fn write_told(
     alloc: Global,
-    keeper: SqliteKeeper<S>,
+    keeper: SqliteKeeper<Store>,
     word: &str,
     rest: &str,
-    out: &mut String,
-) -> Result<Connection<S>, Stop> {
+    out: &mut Reply,
+) -> Result<Connection<Store>, Stop> {
     if word == "state" {
         let mut keeper = keeper;
-        match keeper.load(alloc) {
-            Ok(state) => write_state(&state, out)?,
-            Err(_fault) => return Err("the keeper does not load".into()),
-        }
+        write_kept(alloc, &mut keeper, out)?;
         return Ok(keeper.into_connection());
     }
     let mut client = opened(alloc, keeper)?;
@@ -138,33 +148,43 @@ fn write_told<S: Alter + Drop>(
     Ok(client.close().into_connection())
 }
 
-fn begun(alloc: Global, out: &mut String) -> Result<Connection<MemStore>, Stop> {
-    let connection = Connection::open_in_memory(alloc)?;
+// Opens the tables. Where they are not opened, the database is gone.
+fn write_opened(
+    alloc: Global,
+    connection: Connection<Store>,
+    out: &mut Reply,
+) -> Option<Connection<Store>> {
     match SqliteKeeper::open(alloc, connection) {
         Ok(keeper) => {
-            out.push_str("open")?;
-            Ok(keeper.into_connection())
+            out.push("open");
+            Some(keeper.into_connection())
         }
-        Err(_fault) => Err("no database is opened".into()),
+        Err(fault) => {
+            write_store_fault(fault, out);
+            None
+        }
     }
 }
 
-// Runs a statement, and opens the tables again. Where they are not opened, the database is gone.
-fn write_opened(
+fn begun(alloc: Global, out: &mut Reply) -> Result<Option<Connection<Store>>, Stop> {
+    match connected(alloc, empty(alloc), u64::MAX)? {
+        Some(connection) => Ok(write_opened(alloc, connection, out)),
+        None => Err(Stop),
+    }
+}
+
+// Takes a step of a client over an open database.
+fn write_over(
     alloc: Global,
-    connection: Connection<MemStore>,
-    text: &str,
-    out: &mut String,
-) -> Result<Option<Connection<MemStore>>, Stop> {
-    let mut connection = connection;
-    connection.execute_batch(text)?;
+    connection: Connection<Store>,
+    word: &str,
+    rest: &str,
+    out: &mut Reply,
+) -> Result<Option<Connection<Store>>, Stop> {
     match SqliteKeeper::open(alloc, connection) {
-        Ok(keeper) => {
-            out.push_str("open")?;
-            Ok(Some(keeper.into_connection()))
-        }
+        Ok(keeper) => Ok(Some(write_told(alloc, keeper, word, rest, out)?)),
         Err(fault) => {
-            write_store_fault(fault, out)?;
+            write_store_fault(fault, out);
             Ok(None)
         }
     }
@@ -173,25 +193,22 @@ fn write_opened(
 // Takes a step on an open database.
 fn stepped(
     alloc: Global,
-    connection: Connection<MemStore>,
+    connection: Connection<Store>,
     word: &str,
     rest: &str,
-    out: &mut String,
-) -> Result<Option<Connection<MemStore>>, Stop> {
+    out: &mut Reply,
+) -> Result<Option<Connection<Store>>, Stop> {
     let mut connection = connection;
     match word {
-        "sql" => write_opened(alloc, connection, rest, out),
+        "sql" => {
+            connection.execute_batch(rest)?;
+            Ok(write_opened(alloc, connection, out))
+        }
         "tables" => {
             write_tables(&mut connection, out)?;
             Ok(Some(connection))
         }
-        _ => match SqliteKeeper::open(alloc, connection) {
-            Ok(keeper) => Ok(Some(write_told(alloc, keeper, word, rest, out)?)),
-            Err(fault) => {
-                write_store_fault(fault, out)?;
-                Ok(None)
-            }
-        },
+        _ => write_over(alloc, connection, word, rest, out),
     }
 }
 
@@ -207,14 +224,14 @@ impl Desk {
         alloc: Global,
         word: &str,
         rest: &str,
-        out: &mut String,
+        out: &mut Reply,
     ) -> Result<(), Stop> {
         if word == "new" {
-            self.connection = Some(begun(alloc, out)?);
+            self.connection = begun(alloc, out)?;
             return Ok(());
         }
         let Some(connection) = self.connection.take() else {
-            return Err("no database is open".into());
+            return Err(Stop);
         };
         self.connection = stepped(alloc, connection, word, rest, out)?;
         Ok(())

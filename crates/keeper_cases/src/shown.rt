@@ -105,8 +105,7 @@ pub fn write_rows<K: Keeper>(
     out: &mut Reply,
 ) -> Result<(), Stop> {
     let rows = client.rows(alloc)?;
-    out.push("rows");
-    out.push(" ");
+    out.push("rows ");
     out.show(&rows.len());
     'rows: for row in rows.as_slice() {
         write_row(row, out);
