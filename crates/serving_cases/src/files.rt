@@ -46,6 +46,14 @@ fn push_line(text: &str, file: &mut Vec<u8>) -> Result<(), Stop> {
     Ok(file.push(b'\n')?)
 }
 
+// A token of that payload.
+fn token_of(alloc: Global, given: &Given, payload: &str) -> Result<Text, Stop> {
+    let keys = read_keys(alloc, given.keys.as_slice())?;
+    let kid = Text::from_str(alloc, "k1")?;
+    let payload = Text::from_str(alloc, payload)?;
+    Ok(sign(alloc, &keys, &kid, &payload)?)
+}
+
 /// A request with a token of that payload.
 pub fn request(
     alloc: Global,
@@ -54,17 +62,13 @@ pub fn request(
     payload: &str,
     body: &str,
 ) -> Result<Items<u8>, Stop> {
-    let keys = read_keys(alloc, given.keys.as_slice())?;
-    let kid = Text::from_str(alloc, "k1")?;
-    let payload = Text::from_str(alloc, payload)?;
-    let token = sign(alloc, &keys, &kid, &payload)?;
-    let mut request = Vec::new(alloc);
-    request.extend_from_slice(b"POST ")?;
-    request.extend_from_slice(path.as_bytes())?;
-    request.extend_from_slice(b" HTTP/1.1\r\nAuthorization: Token ")?;
-    request.extend_from_slice(token.bytes())?;
-    let length = format!(in alloc; "\r\nContent-Length: {}\r\n\r\n", body.len())?;
-    request.extend_from_slice(length.as_bytes())?;
+    let token = token_of(alloc, given, payload)?;
+    let head = format!(in alloc;
+        "POST {path} HTTP/1.1\r\nAuthorization: Token {}\r\nContent-Length: {}\r\n\r\n",
+        token.as_str(),
+        body.len()
+    )?;
+    let mut request = Vec::from_slice(alloc, head.as_bytes())?;
     request.extend_from_slice(body.as_bytes())?;
     Ok(Items::from_vec(request))
 }
@@ -82,26 +86,33 @@ fn peer_of(alloc: Global, given: &Given, rest: &str) -> Result<Peer, Stop> {
     })
 }
 
+// Has a connection come.
+fn take_peer(alloc: Global, given: &mut Given, rest: &str) -> Result<(), Stop> {
+    let peer = peer_of(alloc, given, rest)?;
+    Ok(given.peers.push(peer)?)
+}
+
+fn forget(given: &mut Given) {
+    given.rules.clear();
+    given.next.clear();
+    given.changes.clear();
+    given.keys.clear();
+}
+
 /// Adds to the files, or has a connection come.
 pub fn take_word(alloc: Global, given: &mut Given, word: &str, rest: &str) -> Result<(), Stop> {
     match word {
-        "rules" => push_line(rest, &mut given.rules)?,
-        "next" => push_line(rest, &mut given.next)?,
-        "change" => push_line(rest, &mut given.changes)?,
-        "keys" => given.keys.extend_from_slice(rest.as_bytes())?,
+        "rules" => push_line(rest, &mut given.rules),
+        "next" => push_line(rest, &mut given.next),
+        "change" => push_line(rest, &mut given.changes),
+        "keys" => Ok(given.keys.extend_from_slice(rest.as_bytes())?),
         "forget" => {
-            given.rules.clear();
-            given.next.clear();
-            given.changes.clear();
-            given.keys.clear();
+            forget(given);
+            Ok(())
         }
-        "peer" => {
-            let peer = peer_of(alloc, given, rest)?;
-            given.peers.push(peer)?;
-        }
-        _ => Err("no such case")?,
+        "peer" => take_peer(alloc, given, rest),
+        _ => Err(Stop),
     }
-    Ok(())
 }
 
 fn file(alloc: Global, name: &str, content: &[u8]) -> Result<MemoryFile, Stop> {
@@ -111,14 +122,24 @@ fn file(alloc: Global, name: &str, content: &[u8]) -> Result<MemoryFile, Stop> {
     })
 }
 
+// Adds a file.
+fn push_file(
+    alloc: Global,
+    files: &mut Items<MemoryFile>,
+    name: &str,
+    content: &[u8],
+) -> Result<(), Stop> {
+    Ok(files.push(file(alloc, name, content)?)?)
+}
+
 /// The files, under the names `rules`, `next`, `changes` and `keys`.
 pub fn files_of(alloc: Global, given: &Given) -> Result<MemoryFiles, Stop> {
-    let mut files = Vec::new(alloc);
-    files.push(file(alloc, "rules", given.rules.as_slice())?)?;
-    files.push(file(alloc, "next", given.next.as_slice())?)?;
-    files.push(file(alloc, "changes", given.changes.as_slice())?)?;
-    files.push(file(alloc, "keys", given.keys.as_slice())?)?;
-    Ok(MemoryFiles::new(alloc, Items::from_vec(files), Items::new(alloc)))
+    let mut files = Items::new(alloc);
+    push_file(alloc, &mut files, "rules", given.rules.as_slice())?;
+    push_file(alloc, &mut files, "next", given.next.as_slice())?;
+    push_file(alloc, &mut files, "changes", given.changes.as_slice())?;
+    push_file(alloc, &mut files, "keys", given.keys.as_slice())?;
+    Ok(MemoryFiles::new(alloc, files, Items::new(alloc)))
 }
 
 /// The words of a command line, one behind each space.

@@ -19,7 +19,7 @@ mod files;
 mod noting;
 mod serving;
 
-use case_words::{Stop, cut};
+use case_words::{Reply, Stop, cut};
 use files::{Given, new_given, take_word};
 use ps_serving::Hears;
 use serving::{serve, serve_two, serve_until_moved};
@@ -34,13 +34,13 @@ fn take_line<R: Wait + time::Clock + Threads + Sync + Hears>(
     alloc: Global,
     given: &mut Given,
     line: &str,
-    out: &mut String,
+    out: &mut Reply,
 ) -> Result<(), Stop> {
     let (word, rest) = cut(line);
     match word {
         "#" => {
-            out.push_str(line)?;
-            out.push_str("\n")?;
+            out.push(line);
+            out.push("\n");
             Ok(())
         }
         "serve" => serve(rt, alloc, given, rest, out),
@@ -56,11 +56,13 @@ fn answer_all<R: Wait + time::Clock + Threads + Sync + Hears>(
 ) -> Result<(), Stop> {
     let alloc = rt.alloc();
     let mut given = new_given(alloc);
+    let mut out = Reply::new(alloc);
     'lines: for line in rt.lines(alloc) {
         let line = line?;
-        let mut out = String::new(alloc);
+        out.clear();
         take_line(threads, alloc, &mut given, line.as_str(), &mut out)?;
-        print!(rt; "{}", out.as_str())?;
+        let text = out.text()?;
+        print!(rt; "{text}")?;
     }
     Ok(())
 }

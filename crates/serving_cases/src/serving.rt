@@ -2,10 +2,10 @@
 
 use crate::files::{Given, failing, files_of, request, words_of};
 use crate::noting::{Coming, Notes, NotingDoors};
-use case_words::{Stop, cut, number_in, push_shown};
+use case_words::{Reply, Stop, cut, number_in};
 use ps_data::Items;
-use ps_doors::{Ends, MemoryDoors};
-use ps_io::{MemoryClock, MemorySink, Sink};
+use ps_doors::{Doors, Ends, MemoryDoors};
+use ps_io::{MemoryClock, MemorySink, Sink, Source};
 use ps_serving::{Hears, run_serve};
 use std::alloc::Global;
 use std::sync::Wait;
@@ -27,16 +27,65 @@ fn last_line(bytes: &[u8]) -> &[u8] {
 }
 
 // What came of a connection: the first line's status, and the last line.
-fn push_ends(ends: &Ends, out: &mut String) -> Result<(), Stop> {
+fn push_ends(ends: &Ends, out: &mut Reply) {
     let bytes = ends.to.bytes();
     if ends.to.write_faults() > 0 {
-        out.push_str("failed")?;
+        out.push("failed");
     } else if let Some(code) = bytes.get(9..12) {
-        push_shown(code, out)?;
-        out.push_str(" ")?;
-        push_shown(last_line(bytes), out)?;
+        out.spell(code);
+        out.push(" ");
+        out.spell(last_line(bytes));
     }
-    Ok(out.push_str("\n")?)
+    out.push("\n");
+}
+
+// What standard output and standard error take.
+#[derive(Drop)]
+struct Sinks {
+    to: MemorySink,
+    err: MemorySink,
+}
+
+fn new_sinks(alloc: Global) -> Result<Sinks, Stop> {
+    Ok(Sinks {
+        to: MemorySink::new(alloc, ROOM, Items::new(alloc))?,
+        err: MemorySink::new(alloc, ROOM, Items::new(alloc))?,
+    })
+}
+
+// The doors of the connections that come.
+fn doors_of(alloc: Global, given: &mut Given, calls: &str) -> Result<MemoryDoors, Stop> {
+    let peers = mem::replace(&mut given.peers, Vec::new(alloc));
+    Ok(MemoryDoors::new(alloc, Items::from_vec(peers), failing(alloc, calls)?)?)
+}
+
+// Runs a service over doors.
+fn run<
+    R: Wait + time::Clock + Threads + Sync + Hears,
+    S: Source + Send + Drop,
+    K: Sink + Send + Drop,
+    D: Doors<In = S, Out = K>,
+>(
+    rt: &R,
+    alloc: Global,
+    given: &Given,
+    rest: &str,
+    doors: &mut D,
+    sinks: &mut Sinks,
+) -> Result<u8, Stop> {
+    let words = words_of(alloc, rest)?;
+    let mut files = files_of(alloc, given)?;
+    let clock = MemoryClock::new(99, 0);
+    Ok(run_serve(
+        rt,
+        alloc,
+        words.as_slice(),
+        &mut files,
+        doors,
+        &clock,
+        &mut sinks.to,
+        &mut sinks.err,
+    ))
 }
 
 /// Runs a service, and says what came of it.
@@ -45,32 +94,19 @@ pub fn serve<R: Wait + time::Clock + Threads + Sync + Hears>(
     alloc: Global,
     given: &mut Given,
     rest: &str,
-    out: &mut String,
+    out: &mut Reply,
 ) -> Result<(), Stop> {
     let (calls, rest) = cut(rest);
-    let words = words_of(alloc, rest)?;
-    let peers = mem::replace(&mut given.peers, Vec::new(alloc));
-    let mut files = files_of(alloc, given)?;
-    let mut doors = MemoryDoors::new(alloc, Items::from_vec(peers), failing(alloc, calls)?)?;
-    let clock = MemoryClock::new(99, 0);
-    let mut to = MemorySink::new(alloc, ROOM, Items::new(alloc))?;
-    let mut err = MemorySink::new(alloc, ROOM, Items::new(alloc))?;
-    let status = run_serve(
-        rt,
-        alloc,
-        words.as_slice(),
-        &mut files,
-        &mut doors,
-        &clock,
-        &mut to,
-        &mut err,
-    );
-    write!(out, "{status} ")?;
-    push_shown(to.bytes(), out)?;
-    push_shown(err.bytes(), out)?;
-    out.push_str("\n")?;
+    let mut doors = doors_of(alloc, given, calls)?;
+    let mut sinks = new_sinks(alloc)?;
+    let status = run(rt, alloc, given, rest, &mut doors, &mut sinks)?;
+    out.show(&status);
+    out.push(" ");
+    out.spell(sinks.to.bytes());
+    out.spell(sinks.err.bytes());
+    out.push("\n");
     'closed: for ends in doors.closed() {
-        push_ends(ends, out)?;
+        push_ends(ends, out);
     }
     Ok(())
 }
@@ -84,8 +120,6 @@ fn serve_noting<R: Wait + time::Clock + Threads + Sync + Hears>(
     notes: &Notes,
     rest: &str,
 ) -> Result<u8, Stop> {
-    let words = words_of(alloc, rest)?;
-    let mut files = files_of(alloc, given)?;
     let request = request(
         alloc,
         given,
@@ -93,20 +127,9 @@ fn serve_noting<R: Wait + time::Clock + Threads + Sync + Hears>(
         "{\"exp\":100,\"sub\":\"ann\"}",
         "{}",
     )?;
+    let mut sinks = new_sinks(alloc)?;
     let mut doors = NotingDoors::new(alloc, notes, request.as_slice(), coming);
-    let clock = MemoryClock::new(99, 0);
-    let mut to = MemorySink::new(alloc, ROOM, Items::new(alloc))?;
-    let mut err = MemorySink::new(alloc, ROOM, Items::new(alloc))?;
-    Ok(run_serve(
-        rt,
-        alloc,
-        words.as_slice(),
-        &mut files,
-        &mut doors,
-        &clock,
-        &mut to,
-        &mut err,
-    ))
+    run(rt, alloc, given, rest, &mut doors, &mut sinks)
 }
 
 /// Runs a service over streams that come one after another until one has taken a MOVE.
@@ -115,7 +138,7 @@ pub fn serve_until_moved<R: Wait + time::Clock + Threads + Sync + Hears>(
     alloc: Global,
     given: &Given,
     rest: &str,
-    out: &mut String,
+    out: &mut Reply,
 ) -> Result<(), Stop> {
     let (most, rest) = cut(rest);
     let coming = Coming::OneByOne {
@@ -123,8 +146,13 @@ pub fn serve_until_moved<R: Wait + time::Clock + Threads + Sync + Hears>(
     };
     let notes = Notes::new();
     let status = serve_noting(rt, alloc, given, coming, &notes, rest)?;
-    let moved = if notes.has_moved() { "moved" } else { "none" };
-    Ok(write!(out, "{status} {moved}\n")?)
+    out.show(&status);
+    out.push(if notes.has_moved() {
+        " moved\n"
+    } else {
+        " none\n"
+    });
+    Ok(())
 }
 
 /// Runs a service over two streams, of which the first waits for the second.
@@ -133,10 +161,13 @@ pub fn serve_two<R: Wait + time::Clock + Threads + Sync + Hears>(
     alloc: Global,
     given: &Given,
     rest: &str,
-    out: &mut String,
+    out: &mut Reply,
 ) -> Result<(), Stop> {
     let notes = Notes::new();
     let status = serve_noting(rt, alloc, given, Coming::Two, &notes, rest)?;
-    let completed = notes.completed();
-    Ok(write!(out, "{status} {completed}\n")?)
+    out.show(&status);
+    out.push(" ");
+    out.show(&notes.completed());
+    out.push("\n");
+    Ok(())
 }
