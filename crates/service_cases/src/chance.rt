@@ -4,8 +4,7 @@ use crate::commands::rows;
 use crate::granting::due_text;
 use crate::reading::{asker_of, transactions_of};
 use case_stores::rules_of;
-use case_words::{Stop, cut, number_in};
-use ps_data::Memory;
+use case_words::{Reply, Stop, cut, number_in};
 use ps_definitions::Rules;
 use ps_rows::Transaction;
 use ps_sql_eval::Asker;
@@ -81,59 +80,69 @@ impl Dice {
     }
 }
 
-fn push_definition(dice: &mut Dice, rules: &mut String, name: &str) -> Result<(), Memory> {
-    rules.push_str("  ")?;
-    rules.push_str(name)?;
-    rules.push_str(":\n")?;
+fn push_definition(dice: &mut Dice, rules: &mut Reply, name: &str) {
+    rules.push("  ");
+    rules.push(name);
+    rules.push(":\n");
     let parameters = dice.pick(&PARAMETERS);
-    rules.push_str(parameters)?;
-    rules.push_str("    data:\n")?;
+    rules.push(parameters);
+    rules.push("    data:\n");
     let queries: &'static [&'static str] = if parameters.is_empty() {
         &OF_NONE
     } else {
         &OF_A_PARAMETER
     };
-    rules.push_str(dice.pick(queries))?;
-    rules.push_str(dice.pick(queries))?;
-    Ok(())
+    rules.push(dice.pick(queries));
+    rules.push(dice.pick(queries));
 }
 
-fn random_rules(alloc: Global, dice: &mut Dice) -> Result<String, Memory> {
-    let mut rules = String::from_str(alloc, "bucket_definitions:\n")?;
-    push_definition(dice, &mut rules, "first")?;
-    push_definition(dice, &mut rules, "second")?;
-    Ok(rules)
+fn random_rules(alloc: Global, dice: &mut Dice) -> Reply {
+    let mut rules = Reply::new(alloc);
+    rules.push("bucket_definitions:\n");
+    push_definition(dice, &mut rules, "first");
+    push_definition(dice, &mut rules, "second");
+    rules
 }
 
 // The begin of a change, up to the table.
-fn push_op(dice: &mut Dice, changes: &mut String) -> Result<(), Memory> {
+fn push_op(dice: &mut Dice, changes: &mut Reply) {
     let table = if dice.roll() % 2 == 0 { "t" } else { "u" };
     let is_delete = dice.roll() % 5 == 0;
-    let op = if is_delete { "DELETE" } else { "PUT" };
-    Ok(write!(changes, "{{\"op\":\"{op}\",\"table\":\"{table}\"")?)
+    changes.push(if is_delete {
+        "{\"op\":\"DELETE\",\"table\":\""
+    } else {
+        "{\"op\":\"PUT\",\"table\":\""
+    });
+    changes.push(table);
 }
 
-fn push_change(dice: &mut Dice, changes: &mut String) -> Result<(), Memory> {
-    push_op(dice, changes)?;
-    let (id, value, list) = (dice.pick(&IDS), dice.pick(&VALUES), dice.pick(&LISTS));
-    write!(changes, ",\"id\":\"{id}\"")?;
-    Ok(write!(changes, ",\"row\":{{\"v\":{value},\"w\":{list}}}}}")?)
+fn push_change(dice: &mut Dice, changes: &mut Reply) {
+    push_op(dice, changes);
+    changes.push("\",\"id\":\"");
+    changes.push(dice.pick(&IDS));
+    changes.push("\",\"row\":{\"v\":");
+    changes.push(dice.pick(&VALUES));
+    changes.push(",\"w\":");
+    changes.push(dice.pick(&LISTS));
+    changes.push("}}");
 }
 
-fn push_transaction(dice: &mut Dice, changes: &mut String, position: u64) -> Result<(), Memory> {
-    write!(changes, "{{\"pos\":\"{position}\",\"changes\":[")?;
-    push_change(dice, changes)?;
-    changes.push_str(",")?;
-    push_change(dice, changes)?;
-    Ok(changes.push_str("]}\n")?)
+fn push_transaction(dice: &mut Dice, changes: &mut Reply, position: u64) {
+    changes.push("{\"pos\":\"");
+    changes.show(&position);
+    changes.push("\",\"changes\":[");
+    push_change(dice, changes);
+    changes.push(",");
+    push_change(dice, changes);
+    changes.push("]}\n");
 }
 
-fn random_changes(alloc: Global, dice: &mut Dice) -> Result<String, Memory> {
-    let mut changes = String::new(alloc);
+fn random_changes(alloc: Global, dice: &mut Dice) -> Reply {
+    let mut changes = Reply::new(alloc);
     'lines: for position in 1..15 {
-        push_transaction(dice, &mut changes, position)?;
+        push_transaction(dice, &mut changes, position);
     }
-    Ok(changes)
+    changes
 }
 
 // What came of as many tries as were made.
@@ -150,7 +159,7 @@ fn due_rows(
     rules: &Rules,
     asker: &Asker,
     transactions: &[Transaction],
-) -> Result<String, Stop> {
+) -> Result<Reply, Stop> {
     Ok(due_text(alloc, rules, asker, transactions)?)
 }
 
@@ -161,7 +170,7 @@ fn wanted_rows(
     changes: &str,
     user: &str,
     parameters: &str,
-) -> Result<String, Stop> {
+) -> Result<Reply, Stop> {
     let asker = asker_of(alloc, user, parameters)?;
     let transactions = transactions_of(alloc, changes)?;
     let rules = rules_of(alloc, rules)?;
@@ -176,10 +185,13 @@ fn printed_rows(
     user: &str,
     parameters: &str,
 ) -> Result<Option<Vec<u8>>, Stop> {
-    let claims = format!(in alloc;
-        "{{\"token\":{{\"sub\":\"{user}\"}},\"parameters\":{parameters}}}"
-    )?;
-    rows(alloc, rules, changes, claims.as_str())
+    let mut claims = Reply::new(alloc);
+    claims.push("{\"token\":{\"sub\":\"");
+    claims.push(user);
+    claims.push("\"},\"parameters\":");
+    claims.push(parameters);
+    claims.push("}");
+    rows(alloc, rules, changes, claims.text()?)
 }
 
 fn is_text(printed: Option<Vec<u8>>, wanted: &str) -> bool {
@@ -199,19 +211,33 @@ fn compared(
 ) -> Result<(bool, bool), Stop> {
     let wanted = wanted_rows(alloc, rules, changes, user, parameters)?;
     let printed = printed_rows(alloc, rules, changes, user, parameters)?;
-    Ok((is_text(printed, wanted.as_str()), wanted.is_empty()))
+    Ok((is_text(printed, wanted.text()?), wanted.is_empty()))
 }
 
 // The same of rules, changes and an asker that dice make.
 fn is_same(alloc: Global, dice: &mut Dice) -> Result<(bool, bool), Stop> {
-    let rules = random_rules(alloc, dice)?;
-    let changes = random_changes(alloc, dice)?;
+    let rules = random_rules(alloc, dice);
+    let changes = random_changes(alloc, dice);
     let (user, parameters) = ASKERS[dice.roll() % 4];
-    compared(alloc, rules.as_str(), changes.as_str(), user, parameters)
+    compared(alloc, rules.text()?, changes.text()?, user, parameters)
+}
+
+// Makes a try.
+fn count_try(alloc: Global, dice: &mut Dice, outcome: &mut Outcome) -> Result<(), Stop> {
+    let (is_same, is_empty) = is_same(alloc, dice)?;
+    if is_same {
+        outcome.same = outcome.same.saturating_add(1);
+    } else {
+        outcome.different = outcome.different.saturating_add(1);
+    }
+    if is_empty {
+        outcome.without_rows = outcome.without_rows.saturating_add(1);
+    }
+    Ok(())
 }
 
 /// So many tries, with dice that follow from a first number: SEED COUNT.
-pub fn write_tries(alloc: Global, words: &str, out: &mut String) -> Result<(), Stop> {
+pub fn write_tries(alloc: Global, words: &str, out: &mut Reply) -> Result<(), Stop> {
     let (seed, count) = cut(words);
     let mut dice = Dice {
         state: number_in(seed)?,
@@ -222,21 +248,15 @@ pub fn write_tries(alloc: Global, words: &str, out: &mut String) -> Result<(), S
         without_rows: 0,
     };
     'tries: for _ in 0..number_in(count)? {
-        let (is_same, is_empty) = is_same(alloc, &mut dice)?;
-        if is_same {
-            outcome.same = outcome.same.saturating_add(1);
-        } else {
-            outcome.different = outcome.different.saturating_add(1);
-        }
-        if is_empty {
-            outcome.without_rows = outcome.without_rows.saturating_add(1);
-        }
+        count_try(alloc, &mut dice, &mut outcome)?;
     }
     // At least one in three has rows, else there is little to be seen.
     let is_telling = outcome.without_rows / 2 < outcome.same.saturating_sub(outcome.without_rows);
-    Ok(write!(
-        out,
-        "same {} different {} telling {is_telling}",
-        outcome.same, outcome.different
-    )?)
+    out.push("same ");
+    out.show(&outcome.same);
+    out.push(" different ");
+    out.show(&outcome.different);
+    out.push(" telling ");
+    out.show(&is_telling);
+    Ok(())
 }

@@ -1,7 +1,7 @@
 //! The commands, on files and sinks in memory.
 
 use crate::texts::Texts;
-use case_words::{Stop, cut, number_in, size_in};
+use case_words::{Reply, Stop, cut, number_in, size_in};
 use ps_commands::run_plain;
 use ps_data::{Items, Text};
 use ps_io::{Files, MemoryFile, MemoryFiles, MemorySink, SureFiles};
@@ -118,26 +118,28 @@ fn unwritten(
     do_command(alloc, words, &mut files, room, failing(alloc, call)?)
 }
 
-// The lines of a text, each behind a word. A last line without an end is marked.
-fn write_lines(out: &mut String, word: &str, text: &[u8]) -> Result<(), Stop> {
+// The lines of a text, each behind a line feed and a word. A last line without an end is marked.
+fn write_lines(out: &mut Reply, word: &str, text: &[u8]) -> Result<(), Stop> {
     let text = str::from_utf8(text)?;
     'lines: for line in text.lines() {
-        write!(out, "\n{word} {line}")?;
+        out.push(word);
+        out.push(line);
     }
     if !text.is_empty() && !text.ends_with('\n') {
-        out.push_str("(no line feed)")?;
+        out.push("(no line feed)");
     }
     Ok(())
 }
 
-fn write_answer(out: &mut String, answer: &Answer) -> Result<(), Stop> {
-    write!(out, "status {}", answer.status)?;
-    write_lines(out, "out", answer.printed.as_slice())?;
-    write_lines(out, "err", answer.said.as_slice())
+fn write_answer(out: &mut Reply, answer: &Answer) -> Result<(), Stop> {
+    out.push("status ");
+    out.show(&answer.status);
+    write_lines(out, "\nout ", answer.printed.as_slice())?;
+    write_lines(out, "\nerr ", answer.said.as_slice())
 }
 
 /// What a command answers, prints and says.
-pub fn write_run(alloc: Global, texts: &Texts, words: &str, out: &mut String) -> Result<(), Stop> {
+pub fn write_run(alloc: Global, texts: &Texts, words: &str, out: &mut Reply) -> Result<(), Stop> {
     let answer = surely(alloc, texts, words)?;
     write_answer(out, &answer)
 }
@@ -151,22 +153,19 @@ fn count_lines(text: &str) -> u64 {
     count
 }
 
-fn write_counted(out: &mut String, answer: &Answer) -> Result<(), Stop> {
+fn write_counted(out: &mut Reply, answer: &Answer) -> Result<(), Stop> {
     let text = str::from_utf8(answer.printed.as_slice())?;
-    let count = count_lines(text);
-    let first = text.lines().next().unwrap_or("");
-    write!(out, "status {} lines {count}", answer.status)?;
-    write!(out, "\nout {first}")?;
-    write_lines(out, "err", answer.said.as_slice())
+    out.push("status ");
+    out.show(&answer.status);
+    out.push(" lines ");
+    out.show(&count_lines(text));
+    out.push("\nout ");
+    out.push(text.lines().next().unwrap_or(""));
+    write_lines(out, "\nerr ", answer.said.as_slice())
 }
 
 /// How many lines a command prints, and the first of them.
-pub fn write_count(
-    alloc: Global,
-    texts: &Texts,
-    words: &str,
-    out: &mut String,
-) -> Result<(), Stop> {
+pub fn write_count(alloc: Global, texts: &Texts, words: &str, out: &mut Reply) -> Result<(), Stop> {
     let answer = surely(alloc, texts, words)?;
     write_counted(out, &answer)
 }
@@ -176,17 +175,19 @@ pub fn write_unread(
     alloc: Global,
     texts: &Texts,
     words: &str,
-    out: &mut String,
+    out: &mut Reply,
 ) -> Result<(), Stop> {
     let (call, words) = cut(words);
     let answer = unread(alloc, texts, words, number_in(call)?)?;
     write_answer(out, &answer)
 }
 
-fn write_sizes(out: &mut String, answer: &Answer) -> Result<(), Stop> {
-    let size = answer.printed.len();
-    write!(out, "status {} bytes {size}", answer.status)?;
-    write_lines(out, "err", answer.said.as_slice())
+fn write_sizes(out: &mut Reply, answer: &Answer) -> Result<(), Stop> {
+    out.push("status ");
+    out.show(&answer.status);
+    out.push(" bytes ");
+    out.show(&answer.printed.len());
+    write_lines(out, "\nerr ", answer.said.as_slice())
 }
 
 /// What a command answers and says, and how many bytes it prints, where the output has so much room and a call of it fails.
@@ -194,7 +195,7 @@ pub fn write_unwritten(
     alloc: Global,
     texts: &Texts,
     words: &str,
-    out: &mut String,
+    out: &mut Reply,
 ) -> Result<(), Stop> {
     let (room, words) = cut(words);
     let (call, words) = cut(words);

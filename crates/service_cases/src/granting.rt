@@ -3,7 +3,7 @@
 use crate::reading::{asker_of, transactions_of};
 use crate::texts::Texts;
 use case_stores::rules_of;
-use case_words::{Stop, cut, number_in};
+use case_words::{Reply, Stop, cut, number_in};
 use ps_data::{Items, Memory, Position};
 use ps_definitions::Rules;
 use ps_grant::{Granted, SourceRows, grants_of, rows_of, source_at};
@@ -51,28 +51,37 @@ fn granted(alloc: Global, texts: &Texts, words: &str) -> Result<Items<Granted>, 
     granted_to(alloc, texts.text(rules)?, &source, user, parameters)
 }
 
-fn write_row(out: &mut String, row: &Shown) -> Result<(), Stop> {
-    let (kind, id) = (row.kind.as_str(), row.id.as_str());
-    write!(out, "\n{kind} {id} ")?;
-    Ok(out.push_str(row.content.as_str())?)
+fn write_row(out: &mut Reply, row: &Shown) {
+    out.push("\n");
+    out.push(row.kind.as_str());
+    out.push(" ");
+    out.push(row.id.as_str());
+    out.push(" ");
+    out.push(row.content.as_str());
 }
 
 /// The rows that are due.
-pub fn write_due(alloc: Global, texts: &Texts, words: &str, out: &mut String) -> Result<(), Stop> {
+pub fn write_due(alloc: Global, texts: &Texts, words: &str, out: &mut Reply) -> Result<(), Stop> {
     let granted = granted(alloc, texts, words)?;
     let rows = rows_of(alloc, granted.as_slice())?;
-    out.push_str("due")?;
+    out.push("due");
     'rows: for row in rows.as_slice() {
-        write_row(out, row)?;
+        write_row(out, row);
     }
     Ok(())
 }
 
-fn write_copy(out: &mut String, copy: &Granted) -> Result<(), Stop> {
-    let (kind, id) = (copy.kind.as_str(), copy.id.as_str());
-    write!(out, "\n{kind} {id}")?;
-    let (position, index, number) = (copy.position.0, copy.index, copy.number);
-    Ok(write!(out, " {position} {index} {number}")?)
+fn write_copy(out: &mut Reply, copy: &Granted) {
+    out.push("\n");
+    out.push(copy.kind.as_str());
+    out.push(" ");
+    out.push(copy.id.as_str());
+    out.push(" ");
+    out.show(&copy.position.0);
+    out.push(" ");
+    out.show(&copy.index);
+    out.push(" ");
+    out.show(&copy.number);
 }
 
 /// The copies that are granted, each with its moment and the number of its query.
@@ -80,27 +89,31 @@ pub fn write_copies(
     alloc: Global,
     texts: &Texts,
     words: &str,
-    out: &mut String,
+    out: &mut Reply,
 ) -> Result<(), Stop> {
     let granted = granted(alloc, texts, words)?;
-    out.push_str("copies")?;
+    out.push("copies");
     'copies: for copy in granted.as_slice() {
-        write_copy(out, copy)?;
+        write_copy(out, copy);
     }
     Ok(())
 }
 
 // Adds the line of a row.
-fn push_row(alloc: Global, text: &mut String, row: &Shown) -> Result<(), Memory> {
-    let (kind, id) = (quoted(alloc, &row.kind)?, quoted(alloc, &row.id)?);
-    let content = row.content.as_str();
-    Ok(write!(text, "{} {} {content}\n", kind.as_str(), id.as_str())?)
+fn push_row(alloc: Global, text: &mut Reply, row: &Shown) -> Result<(), Memory> {
+    text.push(quoted(alloc, &row.kind)?.as_str());
+    text.push(" ");
+    text.push(quoted(alloc, &row.id)?.as_str());
+    text.push(" ");
+    text.push(row.content.as_str());
+    text.push("\n");
+    Ok(())
 }
 
 // The lines of the rows that are due of copies.
-fn text_of(alloc: Global, copies: &[Granted]) -> Result<String, Memory> {
+fn text_of(alloc: Global, copies: &[Granted]) -> Result<Reply, Memory> {
     let rows = rows_of(alloc, copies)?;
-    let mut text = String::new(alloc);
+    let mut text = Reply::new(alloc);
     'rows: for row in rows.as_slice() {
         push_row(alloc, &mut text, row)?;
     }
@@ -113,7 +126,7 @@ pub fn due_text(
     rules: &Rules,
     asker: &Asker,
     transactions: &[Transaction],
-) -> Result<String, Memory> {
+) -> Result<Reply, Memory> {
     let source = source_at(alloc, transactions, Position(18446744073709551615))?;
     let copies = grants_of(alloc, rules, asker, &source)?;
     text_of(alloc, copies.as_slice())

@@ -5,7 +5,7 @@ ghost use Rattle.std.specs.Prelude.{◌≡◌, ◌≤◌};
 use crate::reading::asker_of;
 use crate::texts::Texts;
 use case_stores::rules_of;
-use case_words::{Stop, cut, number_in};
+use case_words::{Reply, Stop, cut, number_in};
 use ps_changes::read_line;
 use ps_data::{Items, Memory, Position, Text};
 use ps_definitions::Rules;
@@ -93,12 +93,7 @@ fn positions(words: &str) -> Result<(Position, Position), Stop> {
 
 /// The names of an asker's buckets at a position, with all before another one forgotten: RULES CHANGES USER PARAMETERS
 /// FORGOTTEN POSITION.
-pub fn write_names(
-    alloc: Global,
-    texts: &Texts,
-    words: &str,
-    out: &mut String,
-) -> Result<(), Stop> {
+pub fn write_names(alloc: Global, texts: &Texts, words: &str, out: &mut Reply) -> Result<(), Stop> {
     let (rules, words) = cut(words);
     let (changes, words) = cut(words);
     let (user, words) = cut(words);
@@ -106,9 +101,10 @@ pub fn write_names(
     let (forgotten, position) = positions(words)?;
     let (rules, changes) = (texts.text(rules)?, texts.text(changes)?);
     let names = names_for(alloc, rules, changes, user, parameters, forgotten, position)?;
-    out.push_str("names")?;
+    out.push("names");
     'names: for name in names.as_slice() {
-        write!(out, " {}", name.as_str())?;
+        out.push(" ");
+        out.push(name.as_str());
     }
     Ok(())
 }

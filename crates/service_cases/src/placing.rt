@@ -2,7 +2,7 @@
 
 use crate::texts::Texts;
 use case_stores::rules_of;
-use case_words::{Stop, cut, short_number_in};
+use case_words::{Reply, Stop, cut, short_number_in};
 use ps_bucket_eval::{PlaceFault, Placed, entries_of_row, entries_stand_where_conditions_hold};
 use ps_changes::read_change;
 use ps_data::{Items, Memory, Text, Value};
@@ -12,20 +12,26 @@ use ps_values::{read_json, value_of_json};
 use std::alloc::{AllocError, Global};
 
 // Writes the line of an entry.
-fn write_entry(out: &mut String, one: &Placed) -> Result<(), Stop> {
-    let (bucket, key) = (one.bucket.as_str(), &one.key);
-    let (kind, id, subkey) = (key.kind.as_str(), key.id.as_str(), key.subkey.as_str());
-    write!(out, "\n{bucket} {kind} {id} {subkey}")?;
-    let (content, number) = (one.content.as_str(), one.number);
-    Ok(write!(out, " {content} {number}")?)
+fn write_entry(out: &mut Reply, one: &Placed) {
+    out.push("\n");
+    out.push(one.bucket.as_str());
+    out.push(" ");
+    out.push(one.key.kind.as_str());
+    out.push(" ");
+    out.push(one.key.id.as_str());
+    out.push(" ");
+    out.push(one.key.subkey.as_str());
+    out.push(" ");
+    out.push(one.content.as_str());
+    out.push(" ");
+    out.show(&one.number);
 }
 
 // Writes a line for each entry.
-fn write_placed(out: &mut String, placed: &[Placed]) -> Result<(), Stop> {
+fn write_placed(out: &mut Reply, placed: &[Placed]) {
     'entries: for one in placed {
-        write_entry(out, one)?;
+        write_entry(out, one);
     }
-    Ok(())
 }
 
 // The entries of a row, behind its id.
@@ -35,15 +41,19 @@ fn write_row(
     table: &Text,
     id: &Text,
     row: &Row,
-    out: &mut String,
+    out: &mut Reply,
 ) -> Result<(), Stop> {
-    write!(out, "\n= {}", id.as_str())?;
-    let placed = entries_of_row(alloc, rules, table, id, row, 10)?;
-    write_placed(out, placed.as_slice())
+    out.push("\n= ");
+    out.push(id.as_str());
+    write_placed(
+        out,
+        entries_of_row(alloc, rules, table, id, row, 10)?.as_slice(),
+    );
+    Ok(())
 }
 
 // The entries of the row that a line puts.
-fn write_change(alloc: Global, rules: &Rules, line: &str, out: &mut String) -> Result<(), Stop> {
+fn write_change(alloc: Global, rules: &Rules, line: &str, out: &mut Reply) -> Result<(), Stop> {
     let change = read_change(alloc, line.as_bytes())?;
     match &change.row {
         Some(row) => write_row(alloc, rules, &change.table, &change.id, row, out),
@@ -52,7 +62,7 @@ fn write_change(alloc: Global, rules: &Rules, line: &str, out: &mut String) -> R
 }
 
 // The entries of the rows that lines put.
-fn write_changes(alloc: Global, rules: &Rules, lines: &str, out: &mut String) -> Result<(), Stop> {
+fn write_changes(alloc: Global, rules: &Rules, lines: &str, out: &mut Reply) -> Result<(), Stop> {
     'lines: for line in lines.lines() {
         write_change(alloc, rules, line, out)?;
     }
@@ -64,40 +74,48 @@ pub fn write_entries(
     alloc: Global,
     texts: &Texts,
     words: &str,
-    out: &mut String,
+    out: &mut Reply,
 ) -> Result<(), Stop> {
     let (rules, changes) = cut(words);
     let (rules, changes) = (texts.text(rules)?, texts.text(changes)?);
-    out.push_str("entries")?;
+    out.push("entries");
     let rules = rules_of(alloc, rules)?;
     write_changes(alloc, &rules, changes, out)
 }
 
 // The numbers from 0 on, so many, with commas between them.
-fn numbers_below(alloc: Global, count: u32) -> Result<String, Stop> {
-    let mut list = String::from_str(alloc, "0")?;
+fn numbers_below(alloc: Global, count: u32) -> Reply {
+    let mut list = Reply::new(alloc);
+    list.push("0");
     'numbers: for number in 1..count {
-        write!(list, ",{number}")?;
+        list.push(",");
+        list.show(&number);
     }
-    Ok(list)
+    list
 }
 
 // The line of a change that puts three lists into a row.
-fn wide_line(alloc: Global, list: &str) -> Result<String, Stop> {
-    let row = format!(in alloc; "{{\"l\":[{list}],\"m\":[{list}],\"n\":[{list}]}}")?;
-    let row = row.as_str();
-    Ok(format!(in alloc; "{{\"op\":\"PUT\",\"table\":\"t\",\"id\":\"x\",\"row\":{row}}}")?)
+fn wide_line(alloc: Global, list: &str) -> Reply {
+    let mut line = Reply::new(alloc);
+    line.push("{\"op\":\"PUT\",\"table\":\"t\",\"id\":\"x\",\"row\":{\"l\":[");
+    line.push(list);
+    line.push("],\"m\":[");
+    line.push(list);
+    line.push("],\"n\":[");
+    line.push(list);
+    line.push("]}}");
+    line
 }
 
 // A row with three lists of the numbers from 0 on.
 fn wide_row(alloc: Global, count: u32) -> Result<Row, Stop> {
-    let list = numbers_below(alloc, count)?;
-    let line = wide_line(alloc, list.as_str())?;
+    let list = numbers_below(alloc, count);
+    let line = wide_line(alloc, list.text()?);
     let Change {
         table: _,
         id: _,
         row,
-    } = read_change(alloc, line.as_bytes())?;
+    } = read_change(alloc, line.text()?.as_bytes())?;
     match row {
         Some(row) => Ok(row),
         None => Err(Memory)?,
@@ -111,26 +129,32 @@ fn wide_entries(alloc: Global, rules: &Rules, row: &Row) -> Result<Items<Placed>
     entries_of_row(alloc, rules, &table, &id, row, 1000)
 }
 
-fn write_last(out: &mut String, placed: &[Placed]) -> Result<(), Stop> {
+fn write_last(out: &mut Reply, placed: &[Placed]) {
     let last = match placed {
         [.., last] => last.bucket.as_str(),
         [] => "none",
     };
-    Ok(write!(out, "{} {last}", placed.len())?)
+    out.show(&placed.len());
+    out.push(" ");
+    out.push(last);
 }
 
 // What comes of the row with such lists.
-fn write_wide_row(alloc: Global, rules: &Rules, row: &Row, out: &mut String) -> Result<(), Stop> {
+fn write_wide_row(alloc: Global, rules: &Rules, row: &Row, out: &mut Reply) -> Result<(), Stop> {
     match wide_entries(alloc, rules, row) {
         Ok(placed) => write_last(out, placed.as_slice()),
-        Err(PlaceFault::TooWide { count }) => Ok(write!(out, "too wide {count}")?),
-        Err(PlaceFault::Memory) => Err(Memory)?,
+        Err(PlaceFault::TooWide { count }) => {
+            out.push("too wide ");
+            out.show(&count);
+        }
+        Err(PlaceFault::Memory) => return Err(Stop),
     }
+    Ok(())
 }
 
 /// What comes of the row with lists of so many elements, where 1,000 entries are asked for: how many there are and the
 /// last one's bucket, or the count at which they were too many.
-pub fn write_wide(alloc: Global, texts: &Texts, words: &str, out: &mut String) -> Result<(), Stop> {
+pub fn write_wide(alloc: Global, texts: &Texts, words: &str, out: &mut Reply) -> Result<(), Stop> {
     let (rules, count) = cut(words);
     let rules = texts.text(rules)?;
     let row = wide_row(alloc, short_number_in(count)?)?;
@@ -154,12 +178,13 @@ fn values_of(alloc: Global, words: &str) -> Result<Vec<Value>, Stop> {
 }
 
 /// The name of the bucket of a definition and of values in JSON: DEFINITION|VALUE ..
-pub fn write_name(alloc: Global, words: &str, out: &mut String) -> Result<(), Stop> {
+pub fn write_name(alloc: Global, words: &str, out: &mut Reply) -> Result<(), Stop> {
     let (definition, written) = words.split_once('|').ok_or("no definition")?;
     let values = values_of(alloc, written)?;
     let definition = Text::from_str(alloc, definition)?;
     let name = bucket_name(alloc, &definition, values.as_slice())?;
-    Ok(out.push_str(name.as_str())?)
+    out.push(name.as_str());
+    Ok(())
 }
 
 // Whether a refusal of memory becomes the fault that says so.
@@ -171,9 +196,10 @@ where
 }
 
 /// Whether refusals of memory are said as such. Calls the laws, which do nothing.
-pub fn write_memory(out: &mut String) -> Result<(), Stop> {
+pub fn write_memory(out: &mut Reply) {
     names_are_distinct();
     entries_stand_where_conditions_hold();
-    let (memory, alloc) = (is_memory(Memory), is_memory(AllocError));
-    Ok(write!(out, "{memory} {alloc}")?)
+    out.show(&is_memory(Memory));
+    out.push(" ");
+    out.show(&is_memory(AllocError));
 }

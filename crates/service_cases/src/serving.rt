@@ -18,7 +18,7 @@ ghost use Rattle.service_cases.specs.Standing.{IsStore};
 mod asking;
 mod stores;
 
-use case_words::{Stop, cut, number_in, push_spelled};
+use case_words::{Reply, Stop, cut, number_in, push_spelled};
 use ps_data::Text;
 use ps_serve::Site;
 use ps_store::Store;
@@ -125,19 +125,20 @@ fn answer(
     store: &mut Store,
     request: &[u8],
     line: &str,
-    out: &mut String,
+    out: &mut Reply,
 ) -> Result<(), Stop>
     requires { IsStore store.old }
     ensures { IsStore store.new }
 {
     let (word, rest) = cut(line);
     match word {
-        "#" => out.push_str(line)?,
+        "#" => out.push(line),
         "ask" => asking::ask(alloc, site, store, request, rest, out)?,
         "cuts" => asking::ask_cuts(alloc, site, store, request, rest, out)?,
         _ => Err("no such case")?,
     }
-    Ok(out.push_str("\n")?)
+    out.push("\n");
+    Ok(())
 }
 
 // Sets the keys or the rules of the next store; false where the word names neither.
@@ -165,7 +166,7 @@ fn take_line(
     service: &mut Service,
     store: &mut Store,
     line: &str,
-    out: &mut String,
+    out: &mut Reply,
 ) -> Result<(), Stop>
     requires { IsStore store.old }
     ensures { IsStore store.new }
@@ -203,9 +204,10 @@ fn answer_lines(
 {
     let alloc = rt.alloc();
     'lines: for line in cases.lines() {
-        let mut out = String::new(alloc);
+        let mut out = Reply::new(alloc);
         take_line(alloc, service, store, line, &mut out)?;
-        print!(rt; "{}", out.as_str())?;
+        let text = out.text()?;
+        print!(rt; "{text}")?;
     }
     Ok(())
 }

@@ -5,7 +5,7 @@ ghost use Rattle.service_cases.specs.Serving.{IsServing};
 
 use crate::texts::Texts;
 use case_stores::rules_of;
-use case_words::{Stop, cut};
+use case_words::{Reply, Stop, cut};
 use ps_bucket_log::Op;
 use ps_data::{Memory, OpId, Text};
 use ps_definitions::Rules;
@@ -27,17 +27,21 @@ pub fn store_over(alloc: Global, rules: Rules, changes: &str) -> Result<Store, M
 }
 
 // A sign for an operation's kind, its id, and its row.
-fn write_op(out: &mut String, op: &Op) -> Result<(), Stop> {
-    let id = op.id().0;
-    match op {
-        Op::Put { key, .. } => Ok(write!(out, " +{id}:{}", key.id.as_str())?),
-        Op::Remove { key, .. } => Ok(write!(out, " -{id}:{}", key.id.as_str())?),
-        Op::Move { .. } | Op::Clear { .. } => Err(Memory)?,
-    }
+fn write_op(out: &mut Reply, op: &Op) -> Result<(), Stop> {
+    let (sign, key) = match op {
+        Op::Put { key, .. } => (" +", key),
+        Op::Remove { key, .. } => (" -", key),
+        Op::Move { .. } | Op::Clear { .. } => return Err(Stop),
+    };
+    out.push(sign);
+    out.show(&op.id().0);
+    out.push(":");
+    out.push(key.id.as_str());
+    Ok(())
 }
 
 // Writes operations. The answer is the last one's id, the one before them where there is none.
-fn write_ops(out: &mut String, before: OpId, ops: &[Op]) -> Result<OpId, Stop> {
+fn write_ops(out: &mut Reply, before: OpId, ops: &[Op]) -> Result<OpId, Stop> {
     let mut last = before;
     'ops: for op in ops {
         write_op(out, op)?;
@@ -47,8 +51,9 @@ fn write_ops(out: &mut String, before: OpId, ops: &[Op]) -> Result<OpId, Stop> {
 }
 
 // The operations of a bucket up to the checkpoint, in order, batch after batch.
-fn write_log(alloc: Global, store: &Store, name: &str, out: &mut String) -> Result<(), Stop> {
-    write!(out, "\n{name}")?;
+fn write_log(alloc: Global, store: &Store, name: &str, out: &mut Reply) -> Result<(), Stop> {
+    out.push("\n");
+    out.push(name);
     let name = Text::from_str(alloc, name)?;
     let upto = store.checkpoint().op;
     let mut after = OpId(0);
@@ -63,7 +68,7 @@ fn write_log(alloc: Global, store: &Store, name: &str, out: &mut String) -> Resu
 }
 
 // The operations of buckets.
-fn write_logs(alloc: Global, store: &Store, names: &str, out: &mut String) -> Result<(), Stop> {
+fn write_logs(alloc: Global, store: &Store, names: &str, out: &mut Reply) -> Result<(), Stop> {
     'names: for name in names.split(' ') {
         write_log(alloc, store, name, out)?;
     }
@@ -75,14 +80,27 @@ pub fn write_written(
     alloc: Global,
     texts: &Texts,
     words: &str,
-    out: &mut String,
+    out: &mut Reply,
 ) -> Result<(), Stop> {
     let (rules, words) = cut(words);
     let (changes, names) = cut(words);
     let rules = rules_of(alloc, texts.text(rules)?)?;
     let store = store_over(alloc, rules, texts.text(changes)?)?;
-    write!(out, "last {}", store.checkpoint().op.0)?;
+    out.push("last ");
+    out.show(&store.checkpoint().op.0);
     write_logs(alloc, &store, names, out)
+}
+
+// What changes write into a bucket.
+fn write_bucket(
+    alloc: Global,
+    rules: &str,
+    changes: &str,
+    name: &str,
+    out: &mut Reply,
+) -> Result<(), Stop> {
+    let store = store_over(alloc, rules_of(alloc, rules)?, changes)?;
+    write_log(alloc, &store, name, out)
 }
 
 /// What the first transaction of a change file writes into a bucket: RULES CHANGES BUCKET. Calls the laws, which do nothing.
@@ -90,15 +108,13 @@ pub fn write_at_once(
     alloc: Global,
     texts: &Texts,
     words: &str,
-    out: &mut String,
+    out: &mut Reply,
 ) -> Result<(), Stop> {
     readers_hold_what_stands();
     latest_rows_are_due();
     let (rules, words) = cut(words);
     let (changes, name) = cut(words);
-    let rules = rules_of(alloc, texts.text(rules)?)?;
     let first = texts.text(changes)?.lines().next().ok_or("no line")?;
-    let store = store_over(alloc, rules, first)?;
-    out.push_str("at once")?;
-    write_log(alloc, &store, name, out)
+    out.push("at once");
+    write_bucket(alloc, texts.text(rules)?, first, name, out)
 }

@@ -1,13 +1,13 @@
 //! The texts that lines have made.
 
-use case_words::{Stop, cut, number_in};
+use case_words::{Reply, Stop, cut, number_in};
 use std::alloc::Global;
 
 /// A text with a name.
 #[derive(Drop)]
 struct Named {
     name: String,
-    text: String,
+    text: Reply,
 }
 
 /// The texts that lines have made; of several with one name the last one counts.
@@ -16,46 +16,46 @@ pub struct Texts {
     all: Vec<Named>,
 }
 
-// Adds a number, and what stands behind it.
-fn push_number(text: &mut String, number: u64, behind: &str) -> Result<(), Stop> {
-    Ok(write!(text, "{number}{behind}")?)
-}
-
 // Adds what stands behind one `{` of a template, up to the next.
-fn push_part(text: &mut String, number: u64, part: &str) -> Result<(), Stop> {
+fn push_part(text: &mut Reply, number: u64, part: &str) {
     match part.split_once('}') {
-        Some(("n", behind)) => push_number(text, number, behind),
-        Some(("r", behind)) => push_number(text, number % 100, behind),
+        Some(("n", behind)) => {
+            text.show(&number);
+            text.push(behind);
+        }
+        Some(("r", behind)) => {
+            text.show(&(number % 100));
+            text.push(behind);
+        }
         Some(("o", behind)) => {
-            text.push_str(if number % 2 == 0 { "ann" } else { "bob" })?;
-            Ok(text.push_str(behind)?)
+            text.push(if number % 2 == 0 { "ann" } else { "bob" });
+            text.push(behind);
         }
         _ => {
-            text.push_str("{")?;
-            Ok(text.push_str(part)?)
+            text.push("{");
+            text.push(part);
         }
     }
 }
 
 // Adds the line of a template for a number.
-fn push_line(text: &mut String, number: u64, template: &str) -> Result<(), Stop> {
+fn push_line(text: &mut Reply, number: u64, template: &str) {
     'parts: for (index, part) in template.split('{').enumerate() {
         if index == 0 {
-            text.push_str(part)?;
+            text.push(part);
         } else {
-            push_part(text, number, part)?;
+            push_part(text, number, part);
         }
     }
-    Ok(text.push_str("\n")?)
+    text.push("\n");
 }
 
 // Adds the lines of a template for the numbers from 1 on: `{n}` is the number, `{r}` the rest of it by 100, and `{o}` ann for
 // an even number, bob for an odd one.
-fn push_numbered(text: &mut String, count: u64, template: &str) -> Result<(), Stop> {
+fn push_numbered(text: &mut Reply, count: u64, template: &str) {
     'lines: for before in 0..count {
-        push_line(text, before.wrapping_add(1), template)?;
+        push_line(text, before.wrapping_add(1), template);
     }
-    Ok(())
 }
 
 impl Texts {
@@ -69,14 +69,15 @@ impl Texts {
     /// Begins a text.
     pub fn begin(&mut self, alloc: Global, name: &str) -> Result<(), Stop> {
         let name = String::from_str(alloc, name)?;
-        let text = String::new(alloc);
+        let text = Reply::new(alloc);
         Ok(self.all.push(Named { name, text })?)
     }
 
     /// Adds to the text that was begun last.
     pub fn push(&mut self, more: &str) -> Result<(), Stop> {
         let last = self.all.last_mut().ok_or("no text")?;
-        Ok(last.text.push_str(more)?)
+        last.text.push(more);
+        Ok(())
     }
 
     // Adds a part so many times.
@@ -90,7 +91,8 @@ impl Texts {
     // Adds so many lines of a template.
     fn push_lines(&mut self, count: u64, template: &str) -> Result<(), Stop> {
         let last = self.all.last_mut().ok_or("no text")?;
-        push_numbered(&mut last.text, count, template)
+        push_numbered(&mut last.text, count, template);
+        Ok(())
     }
 
     /// Adds what a line says to the text that was begun last: behind `|` a line, behind `>` a part of one, behind `*` and a
@@ -118,7 +120,7 @@ impl Texts {
         let mut found = None;
         'texts: for named in self.all.as_slice() {
             if named.name.as_str() == name {
-                found = Some(named.text.as_str());
+                found = named.text.text().ok();
             }
         }
         found

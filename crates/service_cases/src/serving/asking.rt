@@ -2,7 +2,7 @@
 
 ghost use Rattle.service_cases.specs.Standing.{IsStore};
 
-use case_words::{Stop, cut, number_in, push_shown};
+use case_words::{Reply, Stop, cut, number_in};
 use ps_data::Items;
 use ps_io::{MemoryClock, MemorySink, MemorySource};
 use ps_serve::{End, Site, answer_alone};
@@ -36,20 +36,25 @@ fn connect(
     answer_alone(alloc, store, site, from, to, clock)
 }
 
-fn push_end(answered: (u16, End), out: &mut String) -> Result<(), Stop> {
+fn push_end(answered: (u16, End), out: &mut Reply) {
     let (status, end) = answered;
-    write!(out, "{status} ")?;
+    out.show(&status);
     match end {
-        End::Answered => out.push_str("answered")?,
-        End::Refused => out.push_str("refused")?,
-        End::Drained => out.push_str("drained")?,
-        End::Expired { moment } => write!(out, "expired {moment}")?,
-        End::PeerGone => out.push_str("gone")?,
-        End::CutRequest => out.push_str("cut")?,
-        End::TooMany { count } => write!(out, "too many {count}")?,
-        End::Memory => out.push_str("memory")?,
+        End::Answered => out.push(" answered"),
+        End::Refused => out.push(" refused"),
+        End::Drained => out.push(" drained"),
+        End::Expired { moment } => {
+            out.push(" expired ");
+            out.show(&moment);
+        }
+        End::PeerGone => out.push(" gone"),
+        End::CutRequest => out.push(" cut"),
+        End::TooMany { count } => {
+            out.push(" too many ");
+            out.show(&count);
+        }
+        End::Memory => out.push(" memory"),
     }
-    Ok(())
 }
 
 fn source(alloc: Global, request: &[u8], reads: &str) -> Result<MemorySource, Stop> {
@@ -64,7 +69,7 @@ pub fn ask(
     store: &mut Store,
     request: &[u8],
     rest: &str,
-    out: &mut String,
+    out: &mut Reply,
 ) -> Result<(), Stop>
     requires { IsStore store.old }
     ensures { IsStore store.new }
@@ -75,9 +80,10 @@ pub fn ask(
     let mut from = source(alloc, request, reads)?;
     let mut to = MemorySink::new(alloc, ROOM, failing(alloc, writes)?)?;
     let answered = connect(alloc, site, store, &mut from, &mut to, &clock);
-    push_end(answered, out)?;
-    out.push_str(" ")?;
-    Ok(push_shown(to.bytes(), out)?)
+    push_end(answered, out);
+    out.push(" ");
+    out.spell(to.bytes());
+    Ok(())
 }
 
 // Whether the first part of a request is cut, with nothing written.
@@ -105,7 +111,7 @@ pub fn ask_cuts(
     store: &mut Store,
     request: &[u8],
     rest: &str,
-    out: &mut String,
+    out: &mut Reply,
 ) -> Result<(), Stop>
     requires { IsStore store.old }
     ensures { IsStore store.new }
@@ -120,5 +126,9 @@ pub fn ask_cuts(
             others = others.saturating_add(1);
         }
     }
-    Ok(write!(out, "{cuts} cut, {others} not")?)
+    out.show(&cuts);
+    out.push(" cut, ");
+    out.show(&others);
+    out.push(" not");
+    Ok(())
 }

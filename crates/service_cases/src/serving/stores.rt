@@ -5,7 +5,7 @@ ghost use Rattle.ps_store.specs.Limits.{greatest};
 ghost use Rattle.service_cases.specs.Standing.{IsStore};
 
 use case_stores::{limits_of, rules_of, transaction_of};
-use case_words::Stop;
+use case_words::{Reply, Stop};
 use ps_rows::Transaction;
 use ps_store::{Checkpoint, FeedFault, NothingToCommit, Store, WriteFault, Wrote};
 use std::alloc::Global;
@@ -45,18 +45,19 @@ pub fn feed(alloc: Global, store: &mut Store, line: &str) -> Result<(), Stop>
 }
 
 // The change line at position 1 that puts rows of `t`, `r0` and so on.
-fn rows_line(alloc: Global, count: u64) -> Result<String, Stop> {
-    let mut line = String::from_str(alloc, "{\"pos\":\"1\",\"changes\":[")?;
+fn rows_line(alloc: Global, count: u64) -> Reply {
+    let mut line = Reply::new(alloc);
+    line.push("{\"pos\":\"1\",\"changes\":[");
     'rows: for row in 0..count {
         if row != 0 {
-            line.push_str(",")?;
+            line.push(",");
         }
-        line.push_str("{\"op\":\"PUT\",\"table\":\"t\",\"id\":\"r")?;
-        write!(line, "{row}")?;
-        line.push_str("\",\"row\":{}}")?;
+        line.push("{\"op\":\"PUT\",\"table\":\"t\",\"id\":\"r");
+        line.show(&row);
+        line.push("\",\"row\":{}}");
     }
-    line.push_str("]}")?;
-    Ok(line)
+    line.push("]}");
+    line
 }
 
 /// Feeds so many rows of `t`.
@@ -64,8 +65,8 @@ pub fn feed_rows(alloc: Global, store: &mut Store, count: u64) -> Result<(), Sto
     requires { IsStore store.old }
     ensures { IsStore store.new }
 {
-    let line = rows_line(alloc, count)?;
-    feed(alloc, store, line.as_str())
+    let line = rows_line(alloc, count);
+    feed(alloc, store, line.text()?)
 }
 
 /// Writes a batch of what is fed.
