@@ -6,10 +6,11 @@ ghost use Rattle.case_stores.specs.Histories.{HasHistory};
 
 use crate::reading::transaction_of;
 use case_stores::{limits_of, rules_of};
-use case_words::{Stop, short_number_in};
-use ps_data::{Memory, Text};
+use case_words::{Reply, Stop, short_number_in};
+use ps_compact::Report;
+use ps_data::Text;
 use ps_rows::Transaction;
-use ps_store::{CompactFault, FeedFault, Store, WriteFault, Wrote};
+use ps_store::{Checkpoint, CompactFault, FeedFault, Store, WriteFault, Wrote};
 use std::alloc::Global;
 
 /// A store for the rules of a text, under limits.
@@ -38,40 +39,52 @@ fn write_next(alloc: Global, store: &mut Store, limit: u32) -> Result<Wrote, Wri
     store.write_batch(alloc, limit.clamp(1, 1000000))
 }
 
+/// Adds a text and a number.
+pub fn push_part(out: &mut Reply, text: &str, number: u64) {
+    out.push(text);
+    out.show(&number);
+}
+
 /// Says why nothing was fed.
-pub fn push_feed_fault(out: &mut String, fault: &FeedFault) -> Result<(), Stop> {
+pub fn push_feed_fault(out: &mut Reply, fault: &FeedFault) {
     match fault {
-        FeedFault::FeedClosed => Ok(out.push_str("feed closed")?),
+        FeedFault::FeedClosed => out.push("feed closed"),
         FeedFault::NotRising { last, given } => {
-            Ok(write!(out, "not rising {} {}", last.0, given.0)?)
+            push_part(out, "not rising ", last.0);
+            push_part(out, " ", given.0);
         }
-        FeedFault::PositionFull { head } => Ok(write!(out, "position full {}", head.0)?),
-        FeedFault::Memory => Ok(out.push_str("memory")?),
+        FeedFault::PositionFull { head } => push_part(out, "position full ", head.0),
+        FeedFault::Memory => out.push("memory"),
     }
 }
 
-fn push_write_fault(out: &mut String, fault: &WriteFault) -> Result<(), Stop> {
+fn push_write_fault(out: &mut Reply, fault: &WriteFault) {
     match fault {
-        WriteFault::NothingToWrite => Ok(out.push_str("nothing to write")?),
+        WriteFault::NothingToWrite => out.push("nothing to write"),
         WriteFault::TooWide { table, id, count } => {
-            let (table, id) = (table.as_str(), id.as_str());
-            Ok(write!(out, "too wide {table} {id} {count}")?)
+            out.push("too wide ");
+            out.push(table.as_str());
+            out.push(" ");
+            out.push(id.as_str());
+            out.push(" ");
+            out.show(count);
         }
-        WriteFault::OpsFull { last } => Ok(write!(out, "operations full {}", last.0)?),
-        WriteFault::Memory => Ok(out.push_str("memory")?),
+        WriteFault::OpsFull { last } => push_part(out, "operations full ", last.0),
+        WriteFault::Memory => out.push("memory"),
     }
 }
 
 /// Feeds the transaction of a change line.
-pub fn feed(alloc: Global, store: &mut Store, line: &str, out: &mut String) -> Result<(), Stop>
+pub fn feed(alloc: Global, store: &mut Store, line: &str, out: &mut Reply) -> Result<(), Stop>
     requires { HasHistory store.old }
     ensures { HasHistory store.new }
 {
     let transaction = transaction_of(alloc, line)?;
     match feed_next(alloc, store, transaction) {
-        Ok(()) => Ok(out.push_str("fed")?),
+        Ok(()) => out.push("fed"),
         Err(fault) => push_feed_fault(out, &fault),
     }
+    Ok(())
 }
 
 // Feeds the transaction of a change line, which is refused by none.
@@ -84,7 +97,7 @@ fn feed_surely(alloc: Global, store: &mut Store, line: &str) -> Result<(), Stop>
 }
 
 /// Feeds the transactions of all lines of a text, none of which is refused.
-pub fn feed_all(alloc: Global, store: &mut Store, text: &str, out: &mut String) -> Result<(), Stop>
+pub fn feed_all(alloc: Global, store: &mut Store, text: &str, out: &mut Reply) -> Result<(), Stop>
     requires { HasHistory store.old }
     ensures { HasHistory store.new }
 {
@@ -93,84 +106,103 @@ pub fn feed_all(alloc: Global, store: &mut Store, text: &str, out: &mut String) 
         feed_surely(alloc, store, line)?;
         count = count.saturating_add(1);
     }
-    Ok(write!(out, "fed {count}")?)
+    push_part(out, "fed ", count);
+    Ok(())
 }
 
 /// Closes the feed.
-pub fn close(store: &mut Store, out: &mut String) -> Result<(), Stop>
+pub fn close(store: &mut Store, out: &mut Reply)
     requires { HasHistory store.old }
     ensures { HasHistory store.new }
 {
     store.close_feed();
-    Ok(out.push_str("closed")?)
+    out.push("closed");
+}
+
+fn push_wrote(out: &mut Reply, wrote: &Wrote) {
+    out.push("wrote ");
+    out.show(&wrote.changes);
+    out.push(" ops ");
+    out.show(&wrote.ops);
+    push_part(out, " last ", wrote.last_op.0);
 }
 
 /// Writes a batch.
-pub fn write_one(
-    alloc: Global,
-    store: &mut Store,
-    limit: &str,
-    out: &mut String,
-) -> Result<(), Stop>
+pub fn write_one(alloc: Global, store: &mut Store, limit: &str, out: &mut Reply) -> Result<(), Stop>
     requires { HasHistory store.old }
     ensures { HasHistory store.new }
 {
     let limit = short_number_in(limit)?;
     match write_next(alloc, store, limit) {
-        Ok(wrote) => {
-            write!(out, "wrote {} ops {}", wrote.changes, wrote.ops)?;
-            Ok(write!(out, " last {}", wrote.last_op.0)?)
-        }
+        Ok(wrote) => push_wrote(out, &wrote),
         Err(fault) => push_write_fault(out, &fault),
     }
+    Ok(())
 }
 
 /// Writes batches until one is refused; at most a thousand.
-pub fn write_all(
-    alloc: Global,
-    store: &mut Store,
-    limit: &str,
-    out: &mut String,
-) -> Result<(), Stop>
+pub fn write_all(alloc: Global, store: &mut Store, limit: &str, out: &mut Reply) -> Result<(), Stop>
     requires { HasHistory store.old }
     ensures { HasHistory store.new }
 {
     let limit = short_number_in(limit)?;
     'batches: for _ in 0..1000 {
         match write_next(alloc, store, limit) {
-            Ok(wrote) => write!(out, "{} ", wrote.changes)?,
-            Err(fault) => return push_write_fault(out, &fault),
+            Ok(wrote) => {
+                out.show(&wrote.changes);
+                out.push(" ");
+            }
+            Err(fault) => {
+                push_write_fault(out, &fault);
+                return Ok(());
+            }
         }
     }
-    Err(Memory)?
+    Err(Stop)
+}
+
+/// Says where a checkpoint is.
+pub fn push_checkpoint(out: &mut Reply, checkpoint: Checkpoint) {
+    push_part(out, "checkpoint ", checkpoint.position.0);
+    push_part(out, " ", checkpoint.op.0);
 }
 
 /// Makes what is reached the checkpoint.
-pub fn commit(store: &mut Store, out: &mut String) -> Result<(), Stop>
+pub fn commit(store: &mut Store, out: &mut Reply)
     requires { HasHistory store.old }
     ensures { HasHistory store.new }
 {
     match store.commit() {
-        Ok(checkpoint) => {
-            let (position, op) = (checkpoint.position.0, checkpoint.op.0);
-            Ok(write!(out, "checkpoint {position} {op}")?)
-        }
-        Err(_) => Ok(out.push_str("nothing to commit")?),
+        Ok(checkpoint) => push_checkpoint(out, checkpoint),
+        Err(_) => out.push("nothing to commit"),
     }
 }
 
+fn push_report(out: &mut Reply, report: &Report) {
+    push_part(out, "moved ", report.moved);
+    push_part(out, " cleared ", report.cleared);
+    push_part(out, " before ", report.before);
+    push_part(out, " after ", report.after);
+}
+
 /// Compacts the log of a bucket.
-pub fn compact(alloc: Global, store: &mut Store, bucket: &str, out: &mut String) -> Result<(), Stop>
+pub fn compact(alloc: Global, store: &mut Store, bucket: &str, out: &mut Reply) -> Result<(), Stop>
     requires { HasHistory store.old }
     ensures { HasHistory store.new }
 {
     let bucket = Text::from_str(alloc, bucket)?;
     match store.compact(alloc, &bucket) {
         Ok(report) => {
-            write!(out, "moved {} cleared {}", report.moved, report.cleared)?;
-            Ok(write!(out, " before {} after {}", report.before, report.after)?)
+            push_report(out, &report);
+            Ok(())
         }
-        Err(CompactFault::NoBucket) => Ok(out.push_str("no bucket")?),
-        Err(CompactFault::Memory) => Ok(out.push_str("memory")?),
+        Err(CompactFault::NoBucket) => {
+            out.push("no bucket");
+            Ok(())
+        }
+        Err(CompactFault::Memory) => {
+            out.push("memory");
+            Ok(())
+        }
     }
 }

@@ -2,8 +2,9 @@
 
 ghost use Rattle.case_stores.specs.Histories.{HasHistory};
 
+use crate::changing::{push_checkpoint, push_part};
 use case_stores::rules_of;
-use case_words::{Stop, short_number_in};
+use case_words::{Reply, Stop, short_number_in};
 use ps_definitions::Rules;
 use ps_store::{BuildFault, Built, Checkpoint, DeployFault, NothingBuilding, Store, SwitchFault};
 use std::alloc::Global;
@@ -41,84 +42,103 @@ fn abandon_next(store: &mut Store) -> Result<u32, NothingBuilding>
 }
 
 /// Begins a generation by the rules of a text.
-pub fn deploy(alloc: Global, store: &mut Store, rules: &str, out: &mut String) -> Result<(), Stop>
+pub fn deploy(alloc: Global, store: &mut Store, rules: &str, out: &mut Reply) -> Result<(), Stop>
     requires { HasHistory store.old }
     ensures { HasHistory store.new }
 {
     let rules = rules_of(alloc, rules)?;
     match deploy_next(alloc, store, rules) {
-        Ok(number) => Ok(write!(out, "generation {number}")?),
-        Err(DeployFault::Building { generation }) => Ok(write!(out, "building {generation}")?),
-        Err(DeployFault::GenerationFull { last }) => Ok(write!(out, "generations full {last}")?),
-        Err(DeployFault::Memory) => Ok(out.push_str("memory")?),
+        Ok(number) => push_count(out, "generation ", number),
+        Err(DeployFault::Building { generation }) => push_count(out, "building ", generation),
+        Err(DeployFault::GenerationFull { last }) => push_count(out, "generations full ", last),
+        Err(DeployFault::Memory) => out.push("memory"),
+    }
+    Ok(())
+}
+
+fn push_count(out: &mut Reply, text: &str, count: u32) {
+    push_part(out, text, u64::from(count));
+}
+
+fn push_build_fault(out: &mut Reply, fault: &BuildFault) {
+    match fault {
+        BuildFault::NothingBuilding => out.push("nothing building"),
+        BuildFault::NothingToBuild => out.push("nothing to build"),
+        BuildFault::TooWide { table, id, count } => {
+            out.push("too wide ");
+            out.push(table.as_str());
+            out.push(" ");
+            out.push(id.as_str());
+            push_count(out, " ", *count);
+        }
+        BuildFault::OpsFull { last } => push_part(out, "operations full ", last.0),
+        BuildFault::Memory => out.push("memory"),
     }
 }
 
-fn push_build_fault(out: &mut String, fault: &BuildFault) -> Result<(), Stop> {
-    match fault {
-        BuildFault::NothingBuilding => Ok(out.push_str("nothing building")?),
-        BuildFault::NothingToBuild => Ok(out.push_str("nothing to build")?),
-        BuildFault::TooWide { table, id, count } => {
-            let (table, id) = (table.as_str(), id.as_str());
-            Ok(write!(out, "too wide {table} {id} {count}")?)
-        }
-        BuildFault::OpsFull { last } => Ok(write!(out, "operations full {}", last.0)?),
-        BuildFault::Memory => Ok(out.push_str("memory")?),
-    }
+fn push_built(out: &mut Reply, built: &Built) {
+    out.push("built ");
+    out.show(&built.changes);
+    out.push(" ops ");
+    out.show(&built.ops);
+    push_part(out, " last ", built.last_op.0);
+    out.push(" left ");
+    out.show(&built.left);
 }
 
 /// Takes a batch of the queue of the generation that is being built.
-pub fn build(alloc: Global, store: &mut Store, limit: &str, out: &mut String) -> Result<(), Stop>
+pub fn build(alloc: Global, store: &mut Store, limit: &str, out: &mut Reply) -> Result<(), Stop>
     requires { HasHistory store.old }
     ensures { HasHistory store.new }
 {
     let limit = short_number_in(limit)?;
     match build_next(alloc, store, limit) {
-        Ok(built) => {
-            write!(out, "built {} ops {}", built.changes, built.ops)?;
-            Ok(write!(out, " last {} left {}", built.last_op.0, built.left)?)
-        }
+        Ok(built) => push_built(out, &built),
         Err(fault) => push_build_fault(out, &fault),
     }
+    Ok(())
 }
 
 /// Brings the generation that is being built into force.
-pub fn switch(store: &mut Store, out: &mut String) -> Result<(), Stop>
+pub fn switch(store: &mut Store, out: &mut Reply)
     requires { HasHistory store.old }
     ensures { HasHistory store.new }
 {
     match switch_next(store) {
-        Ok(checkpoint) => {
-            let (position, op) = (checkpoint.position.0, checkpoint.op.0);
-            Ok(write!(out, "checkpoint {position} {op}")?)
+        Ok(checkpoint) => push_checkpoint(out, checkpoint),
+        Err(SwitchFault::NothingBuilding) => out.push("nothing building"),
+        Err(SwitchFault::NotBuilt { left }) => {
+            out.push("not built ");
+            out.show(&left);
         }
-        Err(SwitchFault::NothingBuilding) => Ok(out.push_str("nothing building")?),
-        Err(SwitchFault::NotBuilt { left }) => Ok(write!(out, "not built {left}")?),
-        Err(SwitchFault::HalfWritten { changes }) => Ok(write!(out, "half written {changes}")?),
-        Err(SwitchFault::OpsFull { last }) => Ok(write!(out, "operations full {}", last.0)?),
+        Err(SwitchFault::HalfWritten { changes }) => {
+            out.push("half written ");
+            out.show(&changes);
+        }
+        Err(SwitchFault::OpsFull { last }) => push_part(out, "operations full ", last.0),
     }
 }
 
 /// Drops the generation that is being built.
-pub fn abandon(store: &mut Store, out: &mut String) -> Result<(), Stop>
+pub fn abandon(store: &mut Store, out: &mut Reply)
     requires { HasHistory store.old }
     ensures { HasHistory store.new }
 {
     match abandon_next(store) {
-        Ok(number) => Ok(write!(out, "abandoned {number}")?),
-        Err(NothingBuilding) => Ok(out.push_str("nothing building")?),
+        Ok(number) => push_count(out, "abandoned ", number),
+        Err(NothingBuilding) => out.push("nothing building"),
     }
 }
 
 /// The number of the generation that is being built.
-pub fn show_building(store: &Store, out: &mut String) -> Result<(), Stop> {
+pub fn show_building(store: &Store, out: &mut Reply) {
     match store.building() {
-        Some(number) => Ok(write!(out, "building {number}")?),
-        None => Ok(out.push_str("building none")?),
+        Some(number) => push_count(out, "building ", number),
+        None => out.push("building none"),
     }
 }
 
 /// How many transactions are committed.
-pub fn show_committed(store: &Store, out: &mut String) -> Result<(), Stop> {
-    Ok(write!(out, "committed {}", store.committed())?)
+pub fn show_committed(store: &Store, out: &mut Reply) {
+    push_part(out, "committed ", store.committed());
 }

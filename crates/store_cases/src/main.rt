@@ -23,130 +23,109 @@ mod taking;
 mod texts;
 mod uploading;
 
-use case_words::{Stop, cut};
+use case_words::{Reply, Stop, cut};
 use ps_store::Store;
 use std::alloc::Global;
 use std::io;
 use texts::Texts;
 
-// Does a call that changes the store; false where the word names none.
+// Does a call that changes the store, or another one.
 fn change(
     alloc: Global,
     texts: &Texts,
     store: &mut Store,
     word: &str,
     rest: &str,
-    out: &mut String,
-) -> Result<bool, Stop>
+    out: &mut Reply,
+) -> Result<(), Stop>
     requires { HasHistory store.old }
     ensures { HasHistory store.new }
 {
-    let answered = match word {
+    match word {
         "feed" => changing::feed(alloc, store, rest, out),
         "feed-all" => changing::feed_all(alloc, store, texts.changes(), out),
-        "close" => changing::close(store, out),
         "write" => changing::write_one(alloc, store, rest, out),
         "write-all" => changing::write_all(alloc, store, rest, out),
-        "commit" => changing::commit(store, out),
         "compact" => changing::compact(alloc, store, rest, out),
-        _ => return Ok(false),
-    };
-    answered?;
-    Ok(true)
+        "close" => {
+            changing::close(store, out);
+            Ok(())
+        }
+        "commit" => {
+            changing::commit(store, out);
+            Ok(())
+        }
+        _ => renew(alloc, texts, store, word, rest, out),
+    }
 }
 
-// Does a call for new rules; false where the word names none.
+// Does a call for new rules, or another one.
 fn renew(
     alloc: Global,
     texts: &Texts,
     store: &mut Store,
     word: &str,
     rest: &str,
-    out: &mut String,
-) -> Result<bool, Stop>
+    out: &mut Reply,
+) -> Result<(), Stop>
     requires { HasHistory store.old }
     ensures { HasHistory store.new }
 {
-    let answered = match word {
+    match word {
         "deploy" => deploying::deploy(alloc, store, texts.rules(), out),
         "build" => deploying::build(alloc, store, rest, out),
-        "switch" => deploying::switch(store, out),
-        "abandon" => deploying::abandon(store, out),
-        _ => return Ok(false),
-    };
-    answered?;
-    Ok(true)
+        "switch" => {
+            deploying::switch(store, out);
+            Ok(())
+        }
+        "abandon" => {
+            deploying::abandon(store, out);
+            Ok(())
+        }
+        _ => ask(alloc, store, word, rest, out),
+    }
 }
 
-// Does a call that a client asks for; false where the word names none.
+// Does a call that a client asks for, or another one.
 fn ask(
     alloc: Global,
     store: &mut Store,
     word: &str,
     rest: &str,
-    out: &mut String,
-) -> Result<bool, Stop>
+    out: &mut Reply,
+) -> Result<(), Stop>
     requires { HasHistory store.old }
     ensures { HasHistory store.new }
 {
     match word {
-        "upload" => uploading::upload(alloc, store, rest, out)?,
-        "number" => uploading::number(alloc, store, rest, out)?,
-        _ => return Ok(false),
+        "upload" => uploading::upload(alloc, store, rest, out),
+        "number" => uploading::number(alloc, store, rest, out),
+        _ => show(alloc, store, word, rest, out),
     }
-    Ok(true)
 }
 
-// Does a call that reads the store; false where the word names none.
-fn show(
-    alloc: Global,
-    store: &Store,
-    word: &str,
-    rest: &str,
-    out: &mut String,
-) -> Result<bool, Stop>
+// Does a call that reads the store.
+fn show(alloc: Global, store: &Store, word: &str, rest: &str, out: &mut Reply) -> Result<(), Stop>
     requires { HasHistory store.now }
 {
-    let answered = match word {
+    match word {
+        "log" => return showing::show_log(alloc, store, rest, out),
+        "totals" => return showing::show_totals(store, out),
+        "take" => return taking::show_take(alloc, store, rest, out),
+        "take-as" => return taking::show_take_as(alloc, store, rest, out),
+        "read" => return taking::show_read(alloc, store, rest, out),
         "checkpoint" => showing::show_checkpoint(store, out),
         "head" => showing::show_head(store, out),
-        "log" => showing::show_log(alloc, store, rest, out),
         "building" => deploying::show_building(store, out),
         "committed" => deploying::show_committed(store, out),
-        "totals" => showing::show_totals(store, out),
         "names" => showing::show_names(alloc, store, out),
-        "take" => taking::show_take(alloc, store, rest, out),
-        "take-as" => taking::show_take_as(alloc, store, rest, out),
-        "read" => taking::show_read(alloc, store, rest, out),
-        "#" => Ok(write!(out, "# {rest}")?),
-        _ => return Ok(false),
-    };
-    answered?;
-    Ok(true)
-}
-
-// Does the call that a word names; false where it names none.
-fn act(
-    alloc: Global,
-    texts: &Texts,
-    store: &mut Store,
-    word: &str,
-    rest: &str,
-    out: &mut String,
-) -> Result<bool, Stop>
-    requires { HasHistory store.old }
-    ensures { HasHistory store.new }
-{
-    if change(alloc, texts, store, word, rest, out)? {
-        return Ok(true);
+        "#" => {
+            out.push("# ");
+            out.push(rest);
+        }
+        _ => return Err(Stop),
     }
-    if renew(alloc, texts, store, word, rest, out)? {
-        return Ok(true);
-    }
-    if ask(alloc, store, word, rest, out)? {
-        return Ok(true);
-    }
-    show(alloc, store, word, rest, out)
+    Ok(())
 }
 
 // Answers a line, or takes what it adds to a file.
@@ -155,7 +134,7 @@ fn answer(
     texts: &mut Texts,
     store: &mut Store,
     line: &str,
-    out: &mut String,
+    out: &mut Reply,
 ) -> Result<(), Stop>
     requires { HasHistory store.old }
     ensures { HasHistory store.new }
@@ -168,11 +147,9 @@ fn answer(
         *store = changing::store_of(alloc, texts.rules(), rest)?;
         return Ok(());
     }
-    if act(alloc, texts, store, word, rest, out)? {
-        Ok(out.push_str("\n")?)
-    } else {
-        Err("no such case")?
-    }
+    change(alloc, texts, store, word, rest, out)?;
+    out.push("\n");
+    Ok(())
 }
 
 fn answer_all(rt: &HostRuntime) -> Result<(), Stop> {
@@ -180,9 +157,10 @@ fn answer_all(rt: &HostRuntime) -> Result<(), Stop> {
     let mut texts = Texts::new(rt.alloc())?;
     let mut store = changing::store_of(rt.alloc(), texts.rules(), "")?;
     'lines: for line in cases.as_str().lines() {
-        let mut out = String::new(rt.alloc());
+        let mut out = Reply::new(rt.alloc());
         answer(rt.alloc(), &mut texts, &mut store, line, &mut out)?;
-        print!(rt; "{}", out.as_str())?;
+        let text = out.text()?;
+        print!(rt; "{text}")?;
     }
     Ok(())
 }

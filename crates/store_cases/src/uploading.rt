@@ -4,8 +4,8 @@ ghost use Rattle.std.specs.Prelude.{◌<◌, length, All, IfOk};
 ghost use Rattle.ps_rows.specs.declared.changes.Change.{Change as ChangeSeen};
 ghost use Rattle.case_stores.specs.Histories.{HasHistory};
 
-use crate::changing::push_feed_fault;
-use case_words::{Stop, cut};
+use crate::changing::{push_feed_fault, push_part};
+use case_words::{Reply, Stop, cut};
 use ps_changes::{ChangeFault, read_changes};
 use ps_data::{Items, Position, Text};
 use ps_rows::Change;
@@ -35,27 +35,28 @@ fn upload_next(
 }
 
 /// Uploads the changes of a body.
-pub fn upload(alloc: Global, store: &mut Store, body: &str, out: &mut String) -> Result<(), Stop>
+pub fn upload(alloc: Global, store: &mut Store, body: &str, out: &mut Reply) -> Result<(), Stop>
     requires { HasHistory store.old }
     ensures { HasHistory store.new }
 {
     let changes = changes_of(alloc, body)?;
     match upload_next(alloc, store, changes) {
-        Ok(position) => Ok(write!(out, "uploaded {}", position.0)?),
+        Ok(position) => push_part(out, "uploaded ", position.0),
         Err(fault) => push_feed_fault(out, &fault),
     }
+    Ok(())
 }
 
-fn push_number(out: &mut String, number: Result<u64, NumberFault>) -> Result<(), Stop> {
+fn push_number(out: &mut Reply, number: Result<u64, NumberFault>) {
     match number {
-        Ok(number) => Ok(write!(out, "number {number}")?),
-        Err(NumberFault::NumberFull { last }) => Ok(write!(out, "number full {last}")?),
-        Err(NumberFault::Memory) => Ok(out.push_str("memory")?),
+        Ok(number) => push_part(out, "number ", number),
+        Err(NumberFault::NumberFull { last }) => push_part(out, "number full ", last),
+        Err(NumberFault::Memory) => out.push("memory"),
     }
 }
 
 /// Makes a write checkpoint of a user's client: `USER CLIENT`.
-pub fn number(alloc: Global, store: &mut Store, words: &str, out: &mut String) -> Result<(), Stop>
+pub fn number(alloc: Global, store: &mut Store, words: &str, out: &mut Reply) -> Result<(), Stop>
     requires { HasHistory store.old }
     ensures { HasHistory store.new }
 {
@@ -63,5 +64,6 @@ pub fn number(alloc: Global, store: &mut Store, words: &str, out: &mut String) -
     let user = Text::from_str(alloc, user)?;
     let client = Text::from_str(alloc, client)?;
     let number = store.write_checkpoint(alloc, &user, &client);
-    push_number(out, number)
+    push_number(out, number);
+    Ok(())
 }
