@@ -1,6 +1,6 @@
 //! Bells: one that nobody rings, and those that threads share.
 
-use case_words::{Stop, cut, number_in};
+use case_words::{Reply, Stop, cut, number_in};
 use ps_doors::{Bell, QuietBell};
 use ps_sockets::{Rings, RungBell};
 use std::alloc::Global;
@@ -9,7 +9,7 @@ use std::thread::{Threads, join, map_vec, sleep};
 use std::time::{Clock, Duration, Instant};
 
 /// What the bell answers that nobody rings.
-pub fn write_quiet(out: &mut String) -> Result<(), Stop> {
+pub fn write_quiet(out: &mut Reply) {
     let mut bell = QuietBell::new();
     let first = bell.heard();
     bell.ring();
@@ -18,33 +18,44 @@ pub fn write_quiet(out: &mut String) -> Result<(), Stop> {
     let fourth = bell.wait(3);
     bell.close();
     let closed = bell.closed();
-    Ok(write!(
-        out,
-        "{first} {second} {third} {fourth} {closed} {}",
-        bell.closings()
-    )?)
+    out.show(&first);
+    push_number(out, " ", second);
+    push_number(out, " ", third);
+    push_number(out, " ", fourth);
+    push_truth(out, closed);
+    push_number(out, " ", bell.closings());
+}
+
+fn push_number(out: &mut Reply, text: &str, number: u64) {
+    out.push(text);
+    out.show(&number);
+}
+
+fn push_truth(out: &mut Reply, truth: bool) {
+    out.push(if truth { " true" } else { " false" });
 }
 
 /// What two bells of the same rings answer.
-pub fn write_rung<R: Wait + Clock>(rt: &R, out: &mut String) -> Result<(), Stop> {
+pub fn write_rung<R: Wait + Clock>(rt: &R, out: &mut Reply) {
     let rings = Rings::new();
     let mut one = RungBell::new(rt, &rings);
     let mut other = one.another();
-    write!(out, "{} {}", one.heard(), other.heard())?;
+    push_number(out, "", one.heard());
+    push_number(out, " ", other.heard());
     one.ring();
-    write!(
-        out,
-        "; rung {} {} {}",
-        one.heard(),
-        other.heard(),
-        other.wait(0)
-    )?;
-    let early = one.closed();
+    push_number(out, "; rung ", one.heard());
+    push_number(out, " ", other.heard());
+    push_number(out, " ", other.wait(0));
+    out.push("; closed");
+    push_truth(out, one.closed());
     other.close();
-    write!(out, "; closed {early} {} {}", one.closed(), one.closed())?;
-    write!(out, "; closings {} {}", one.closings(), other.closings())?;
-    let late = other.closed();
-    Ok(write!(out, " {late} {} {}", other.closings(), other.heard())?)
+    push_truth(out, one.closed());
+    push_truth(out, one.closed());
+    push_number(out, "; closings ", one.closings());
+    push_number(out, " ", other.closings());
+    push_truth(out, other.closed());
+    push_number(out, " ", other.closings());
+    push_number(out, " ", other.heard());
 }
 
 // Waits for a ring, and says what was heard and after how many seconds.
@@ -71,11 +82,7 @@ fn ring_late<R: Wait + Clock>(rt: &R, mut bell: RungBell<R>, shut: bool) {
 }
 
 /// What a bell hears that waits in a thread until another rings or closes.
-pub fn write_woken<R: Threads + Wait + Clock + Sync>(
-    rt: &R,
-    shut: bool,
-    out: &mut String,
-) -> Result<(), Stop> {
+pub fn write_woken<R: Threads + Wait + Clock + Sync>(rt: &R, shut: bool, out: &mut Reply) {
     let rings = Rings::new();
     let one = RungBell::new(rt, &rings);
     let other = one.another();
@@ -84,20 +91,20 @@ pub fn write_woken<R: Threads + Wait + Clock + Sync>(
         move || wait_for(rt, other),
         move || ring_late(rt, one, shut),
     );
-    let when = if seconds < 10 { "soon" } else { "late" };
-    Ok(write!(out, "{heard} {when}")?)
+    out.show(&heard);
+    out.push(if seconds < 10 { " soon" } else { " late" });
 }
 
 /// How long a bell waits where nobody rings.
-pub fn write_alone<R: Wait + Clock>(rt: &R, out: &mut String) -> Result<(), Stop> {
+pub fn write_alone<R: Wait + Clock>(rt: &R, out: &mut Reply) {
     let rings = Rings::new();
     let (heard, seconds) = wait_for(rt, RungBell::new(rt, &rings));
-    let when = if (20..30).contains(&seconds) {
-        "after twenty seconds"
+    out.show(&heard);
+    out.push(if (20..30).contains(&seconds) {
+        " after twenty seconds"
     } else {
-        "at another time"
-    };
-    Ok(write!(out, "{heard} {when}")?)
+        " at another time"
+    });
 }
 
 // A bell, and after how many milliseconds it is rung, if not waited for.
@@ -157,7 +164,7 @@ pub fn write_many<R: Threads + Wait + Clock + Sync>(
     rt: &R,
     alloc: Global,
     words: &str,
-    out: &mut String,
+    out: &mut Reply,
 ) -> Result<(), Stop> {
     let (count, milliseconds) = cut(words);
     let rings = Rings::new();
@@ -168,5 +175,6 @@ pub fn write_many<R: Threads + Wait + Clock + Sync>(
         number_in(count)?,
         number_in(milliseconds)?,
     )?;
-    Ok(write!(out, "{heard}")?)
+    out.show(&heard);
+    Ok(())
 }

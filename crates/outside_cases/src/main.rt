@@ -27,84 +27,83 @@ mod peers;
 mod sockets;
 mod staged;
 
-use case_words::{Stop, cut};
+use case_words::{Reply, Stop, cut};
 use std::alloc::Global;
 use std::net::{Net, TcpListener, TcpStream};
 use std::sync::Wait;
 use std::thread::Threads;
 use std::time::Clock;
 
-fn write_bells<R: Threads + Wait + Clock + Sync>(
-    rt: &R,
-    alloc: Global,
-    word: &str,
-    rest: &str,
-    out: &mut String,
-) -> Result<bool, Stop> {
-    match word {
-        "quiet" => bells::write_quiet(out)?,
-        "rung" => bells::write_rung(rt, out)?,
-        "woken" | "shut" => bells::write_woken(rt, word == "shut", out)?,
-        "alone" => bells::write_alone(rt, out)?,
-        "bells" => bells::write_many(rt, alloc, rest, out)?,
-        _ => return Ok(false),
-    }
-    Ok(true)
-}
-
-fn write_memory(alloc: Global, word: &str, rest: &str, out: &mut String) -> Result<bool, Stop> {
-    match word {
-        "doors" => memory::write_doors(alloc, rest, out)?,
-        "lent" => memory::write_lent(alloc, rest, out)?,
-        "backwards" => memory::write_backwards(alloc, rest, out)?,
-        "return" => memory::write_returned(alloc, rest, out)?,
-        "listen" => memory::write_listening(alloc, rest, out)?,
-        "link" => memory::write_link(alloc, rest, out)?,
-        "errors" => staged::write_errors(alloc, rest, out)?,
-        "slow" => staged::write_slow(alloc, rest, out)?,
-        _ => return Ok(false),
-    }
-    Ok(true)
-}
-
+// Cases of sockets, or others.
 fn write_sockets<R>(
     rt: &R,
     alloc: Global,
     word: &str,
     rest: &str,
-    out: &mut String,
-) -> Result<bool, Stop>
+    out: &mut Reply,
+) -> Result<(), Stop>
 where
-    R: Net<Listener = TcpListener, Stream = TcpStream> + Threads + Clock + Sync,
+    R: Net<Listener = TcpListener, Stream = TcpStream> + Threads + Wait + Clock + Sync,
 {
     match word {
-        "echo" => sockets::write_echo(rt, alloc, out)?,
-        "peer" => sockets::write_peer(rt, alloc, rest, out)?,
-        "refused" => sockets::write_refused(rt, alloc, out)?,
-        "taken" => sockets::write_taken(rt, alloc, out)?,
-        "nowhere" => sockets::write_nowhere(rt, alloc, out)?,
-        "unlistened" => sockets::write_unlistened(rt, out)?,
-        _ => return Ok(false),
+        "echo" => sockets::write_echo(rt, alloc, out),
+        "peer" => sockets::write_peer(rt, alloc, rest, out),
+        "refused" => sockets::write_refused(rt, alloc, out),
+        "taken" => sockets::write_taken(rt, alloc, out),
+        "nowhere" => sockets::write_nowhere(rt, alloc, out),
+        "unlistened" => {
+            sockets::write_unlistened(rt, out);
+            Ok(())
+        }
+        _ => write_bells(rt, alloc, word, rest, out),
     }
-    Ok(true)
 }
 
-fn write_answer<R>(rt: &R, alloc: Global, line: &str, out: &mut String) -> Result<(), Stop>
+// Cases of bells, or others.
+fn write_bells<R: Threads + Wait + Clock + Sync>(
+    rt: &R,
+    alloc: Global,
+    word: &str,
+    rest: &str,
+    out: &mut Reply,
+) -> Result<(), Stop> {
+    match word {
+        "quiet" => bells::write_quiet(out),
+        "rung" => bells::write_rung(rt, out),
+        "woken" => bells::write_woken(rt, false, out),
+        "shut" => bells::write_woken(rt, true, out),
+        "alone" => bells::write_alone(rt, out),
+        "bells" => return bells::write_many(rt, alloc, rest, out),
+        _ => return write_memory(alloc, word, rest, out),
+    }
+    Ok(())
+}
+
+// Cases in memory, and of a network that is made up.
+fn write_memory(alloc: Global, word: &str, rest: &str, out: &mut Reply) -> Result<(), Stop> {
+    match word {
+        "doors" => memory::write_doors(alloc, rest, out),
+        "lent" => memory::write_lent(alloc, rest, out),
+        "backwards" => memory::write_backwards(alloc, rest, out),
+        "return" => memory::write_returned(alloc, rest, out),
+        "listen" => memory::write_listening(alloc, rest, out),
+        "link" => memory::write_link(alloc, rest, out),
+        "errors" => staged::write_errors(alloc, rest, out),
+        "slow" => staged::write_slow(alloc, rest, out),
+        _ => Err(Stop),
+    }
+}
+
+fn write_answer<R>(rt: &R, alloc: Global, line: &str, out: &mut Reply) -> Result<(), Stop>
 where
     R: Net<Listener = TcpListener, Stream = TcpStream> + Threads + Wait + Clock + Sync,
 {
     if line.as_bytes().starts_with(b"#") {
-        return Ok(out.push_str(line)?);
+        out.push(line);
+        return Ok(());
     }
     let (word, rest) = cut(line);
-    let is_answered = write_memory(alloc, word, rest, out)?
-        || write_bells(rt, alloc, word, rest, out)?
-        || write_sockets(rt, alloc, word, rest, out)?;
-    if is_answered {
-        Ok(())
-    } else {
-        Err("no such case".into())
-    }
+    write_sockets(rt, alloc, word, rest, out)
 }
 
 fn answer_all<R>(rt: &HostRuntime, system: &R) -> Result<(), Stop>
@@ -114,9 +113,10 @@ where
     let alloc = rt.alloc();
     'lines: for line in rt.lines(alloc) {
         let line = line?;
-        let mut out = String::new(alloc);
+        let mut out = Reply::new(alloc);
         write_answer(system, alloc, line.as_str(), &mut out)?;
-        println!(rt; "{}", out.as_str())?;
+        let text = out.text()?;
+        println!(rt; "{text}")?;
     }
     Ok(())
 }

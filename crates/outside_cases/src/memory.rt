@@ -3,7 +3,7 @@
 ghost use Rattle.std.specs.Prelude.{◌≡◌, IfOk};
 
 use crate::peers::{numbers, peers, write_closed};
-use case_words::{Stop, cut, number_in};
+use case_words::{Reply, Stop, cut, number_in};
 use outside_tests::{echo_all, echo_two_backwards, give_back_once};
 use ps_data::{Items, Text};
 use ps_doors::{Doors, Lent, Link, MemoryDoors, MemoryLink};
@@ -20,55 +20,70 @@ fn doors_of(alloc: Global, words: &str) -> Result<MemoryDoors, Stop>
     Ok(MemoryDoors::new(alloc, peers(alloc, words)?, numbers(alloc, failing)?)?)
 }
 
+fn write_faults(text: &str, faults: u64, out: &mut Reply) {
+    out.push(text);
+    out.show(&faults);
+    out.push(" faults");
+}
+
 /// What is closed where each connection is sent back the first bytes that it sends.
-pub fn write_doors(alloc: Global, words: &str, out: &mut String) -> Result<(), Stop> {
+pub fn write_doors(alloc: Global, words: &str, out: &mut Reply) -> Result<(), Stop> {
     let mut doors = doors_of(alloc, words)?;
     let came = echo_all(&mut doors, MANY);
-    write!(out, "{came} came, {} faults", doors.door_faults())?;
-    write_closed(doors.closed(), out)
+    out.show(&came);
+    write_faults(" came, ", doors.door_faults(), out);
+    write_closed(doors.closed(), out);
+    Ok(())
 }
 
 /// The same through doors that are lent.
-pub fn write_lent(alloc: Global, words: &str, out: &mut String) -> Result<(), Stop> {
+pub fn write_lent(alloc: Global, words: &str, out: &mut Reply) -> Result<(), Stop> {
     let mut doors = doors_of(alloc, words)?;
     let mut lent = Lent { doors: &mut doors };
     let heard = lent.listen(&Text::from_str(alloc, "here:1")?).is_ok();
     let came = echo_all(&mut lent, MANY);
-    write!(out, "{heard}, {came} came, {} faults", lent.door_faults())?;
-    write_closed(doors.closed(), out)
+    out.show(&heard);
+    out.push(", ");
+    out.show(&came);
+    write_faults(" came, ", lent.door_faults(), out);
+    write_closed(doors.closed(), out);
+    Ok(())
 }
 
 /// What is closed of two connections, the second one first.
-pub fn write_backwards(alloc: Global, words: &str, out: &mut String) -> Result<(), Stop> {
+pub fn write_backwards(alloc: Global, words: &str, out: &mut Reply) -> Result<(), Stop> {
     let mut doors = doors_of(alloc, words)?;
-    let came = echo_two_backwards(&mut doors);
-    write!(out, "{came}, {} faults", doors.door_faults())?;
-    write_closed(doors.closed(), out)
+    out.show(&echo_two_backwards(&mut doors));
+    write_faults(", ", doors.door_faults(), out);
+    write_closed(doors.closed(), out);
+    Ok(())
 }
 
 /// What is closed where the first connection is given back as it came.
-pub fn write_returned(alloc: Global, words: &str, out: &mut String) -> Result<(), Stop> {
+pub fn write_returned(alloc: Global, words: &str, out: &mut Reply) -> Result<(), Stop> {
     let mut doors = doors_of(alloc, words)?;
     let from = MemorySource::new(Items::new(alloc), Items::new(alloc));
     let to = MemorySink::new(alloc, 0, Items::new(alloc))?;
-    let came = give_back_once(&mut doors, from, to);
-    write!(out, "{came}, {} faults", doors.door_faults())?;
-    write_closed(doors.closed(), out)
+    out.show(&give_back_once(&mut doors, from, to));
+    write_faults(", ", doors.door_faults(), out);
+    write_closed(doors.closed(), out);
+    Ok(())
 }
 
 /// Listens so often.
-pub fn write_listening(alloc: Global, words: &str, out: &mut String) -> Result<(), Stop> {
+pub fn write_listening(alloc: Global, words: &str, out: &mut Reply) -> Result<(), Stop> {
     let (failing, count) = cut(words);
     let mut doors = MemoryDoors::new(alloc, peers(alloc, "/-/0/-")?, numbers(alloc, failing)?)?;
     let address = Text::from_str(alloc, "here:1")?;
     'calls: for _ in 0..number_in(count)? {
-        out.push_str(if doors.listen(&address).is_ok() {
+        out.push(if doors.listen(&address).is_ok() {
             "ok "
         } else {
             "failed "
-        })?;
+        });
     }
-    Ok(write!(out, "{} faults", doors.door_faults())?)
+    write_faults("", doors.door_faults(), out);
+    Ok(())
 }
 
 // Connects, reads once, sends `ask` and closes; says whether there was a connection.
@@ -88,20 +103,22 @@ fn ask<L: Link>(link: &mut L, address: &Text) -> bool {
 }
 
 /// What is closed where each peer is asked, and how often the link has failed after each connection.
-pub fn write_link(alloc: Global, words: &str, out: &mut String) -> Result<(), Stop> {
+pub fn write_link(alloc: Global, words: &str, out: &mut Reply) -> Result<(), Stop> {
     let (failing, words) = cut(words);
     let all = peers(alloc, words)?;
     let count = all.len();
     let mut link = MemoryLink::new(alloc, all, numbers(alloc, failing)?)?;
     let address = Text::from_str(alloc, "here:1")?;
     'peers: for _ in 0..=count {
-        out.push_str(if ask(&mut link, &address) {
+        out.push(if ask(&mut link, &address) {
             "ok "
         } else {
             "failed "
-        })?;
-        write!(out, "{} ", link.link_faults())?;
+        });
+        out.show(&link.link_faults());
+        out.push(" ");
     }
-    out.push_str("closed")?;
-    write_closed(link.closed(), out)
+    out.push("closed");
+    write_closed(link.closed(), out);
+    Ok(())
 }

@@ -1,6 +1,6 @@
 //! Peers in memory, as a line has them, and how the ends of what was closed are printed.
 
-use case_words::{Stop, number_in, push_shown, size_in};
+use case_words::{Reply, Stop, number_in, size_in};
 use ps_data::Items;
 use ps_doors::{Ends, Peer};
 use ps_io::{Sink, Source};
@@ -41,28 +41,25 @@ pub fn peers(alloc: Global, words: &str) -> Result<Items<Peer>, Stop> {
     Ok(all)
 }
 
-fn write_ends(ends: &Ends, out: &mut String) -> Result<(), Stop> {
-    out.push_str("; [")?;
-    push_shown(ends.from.given(), out)?;
-    out.push_str("] [")?;
-    push_shown(ends.to.bytes(), out)?;
-    let is_ended = if ends.from.has_ended() {
-        "ended"
+fn write_ends(ends: &Ends, out: &mut Reply) {
+    out.push("; [");
+    out.spell(ends.from.given());
+    out.push("] [");
+    out.spell(ends.to.bytes());
+    out.push("] ");
+    out.show(&ends.from.read_faults());
+    out.push(" ");
+    out.show(&ends.to.write_faults());
+    out.push(if ends.from.has_ended() {
+        " ended"
     } else {
-        "open"
-    };
-    Ok(write!(
-        out,
-        "] {} {} {is_ended}",
-        ends.from.read_faults(),
-        ends.to.write_faults()
-    )?)
+        " open"
+    });
 }
 
 /// Writes of each closed connection what its ends tell.
-pub fn write_closed(closed: &[Ends], out: &mut String) -> Result<(), Stop> {
+pub fn write_closed(closed: &[Ends], out: &mut Reply) {
     'closed: for ends in closed {
-        write_ends(ends, out)?;
+        write_ends(ends, out);
     }
-    Ok(())
 }

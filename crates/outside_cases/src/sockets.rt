@@ -1,6 +1,6 @@
 //! Doors and links over sockets of this machine.
 
-use case_words::{Stop, cut, number_in, push_shown, size_in};
+use case_words::{Reply, Stop, cut, number_in, size_in};
 use outside_tests::echo_all;
 use ps_data::Text;
 use ps_doors::{Doors, Link};
@@ -55,7 +55,7 @@ fn say_hello<L: Link>(alloc: Global, link: &mut L, address: &Text) -> Result<Vec
 }
 
 /// A link that says hello to doors which send back what they read.
-pub fn write_echo<R>(rt: &R, alloc: Global, out: &mut String) -> Result<(), Stop>
+pub fn write_echo<R>(rt: &R, alloc: Global, out: &mut Reply) -> Result<(), Stop>
 where
     R: Net<Listener = TcpListener, Stream = TcpStream> + Threads + Clock + Sync,
 {
@@ -67,9 +67,20 @@ where
         || say_hello(alloc, &mut link, &address),
         || echo_all(&mut doors, 1),
     );
-    write!(out, "{came} came, {} faults; [", doors.door_faults())?;
-    push_shown(taken?.as_slice(), out)?;
-    Ok(write!(out, "] {} faults", link.link_faults())?)
+    out.show(&came);
+    out.push(" came, ");
+    out.show(&doors.door_faults());
+    out.push(" faults; [");
+    write_hello(taken, link.link_faults(), out)
+}
+
+// What came back, and how often the link has failed.
+fn write_hello(taken: Result<Vec<u8>, Stop>, faults: u64, out: &mut Reply) -> Result<(), Stop> {
+    out.spell(taken?.as_slice());
+    out.push("] ");
+    out.show(&faults);
+    out.push(" faults");
+    Ok(())
 }
 
 /// What a peer does: how many bytes it sends, whether it says that these are all, and how many it takes at most before it leaves.
@@ -167,15 +178,58 @@ fn plan_of(words: &str) -> Result<(Plan, &str), Stop> {
     Ok((plan, rest))
 }
 
+/// What a peer does, how many bytes the service reads at most, and how many pieces it sends.
+#[derive(Clone, Copy)]
+struct Meeting {
+    plan: Plan,
+    wants: usize,
+    pieces: u64,
+}
+
+fn meeting_of(words: &str) -> Result<Meeting, Stop> {
+    let (plan, rest) = plan_of(words)?;
+    let (wants, pieces) = cut(rest);
+    Ok(Meeting {
+        plan,
+        wants: size_in(wants)?,
+        pieces: number_in(pieces)?,
+    })
+}
+
+// What the service saw, how much the peer took, and how often the doors have failed.
+fn write_met<S: Source, K: Sink>(
+    served: &Served<S, K>,
+    taken: Option<usize>,
+    faults: u64,
+    out: &mut Reply,
+) -> Result<(), Stop> {
+    out.push("given ");
+    out.show(&served.given);
+    out.push(if served.ended {
+        " ended, faults "
+    } else {
+        " open, faults "
+    });
+    out.show(&served.from.read_faults());
+    out.push(" ");
+    out.show(&served.to.write_faults());
+    out.push(", taken ");
+    out.show(&taken.ok_or("no peer")?);
+    out.push(", doors ");
+    out.show(&faults);
+    Ok(())
+}
+
 /// What the service sees of a peer, and how much that takes.
-pub fn write_peer<R>(rt: &R, alloc: Global, words: &str, out: &mut String) -> Result<(), Stop>
+pub fn write_peer<R>(rt: &R, alloc: Global, words: &str, out: &mut Reply) -> Result<(), Stop>
 where
     R: Net<Listener = TcpListener, Stream = TcpStream> + Threads + Clock + Sync,
 {
-    let (plan, rest) = plan_of(words)?;
-    let (wants, pieces) = cut(rest);
-    let wants = size_in(wants)?;
-    let pieces = number_in(pieces)?;
+    let Meeting {
+        plan,
+        wants,
+        pieces,
+    } = meeting_of(words)?;
     let (mut doors, port) = listening(rt, alloc)?;
     let stream = TcpStream::connect(rt, ("127.0.0.1", port))?;
     let Ok(Some((from, to))) = doors.next() else {
@@ -186,68 +240,58 @@ where
         move || serve(from, to, wants, pieces),
         move || visit(stream, plan),
     );
-    let end = if served.ended { "ended" } else { "open" };
-    write!(
-        out,
-        "given {} {end}, faults {}",
-        served.given,
-        served.from.read_faults()
-    )?;
-    write!(
-        out,
-        " {}, taken {}",
-        served.to.write_faults(),
-        taken.ok_or("no peer")?
-    )?;
-    Ok(write!(out, ", doors {}", doors.door_faults())?)
+    write_met(&served, taken, doors.door_faults(), out)
 }
 
-fn write_connected<L: Link>(link: &mut L, address: &Text, out: &mut String) -> Result<(), Stop> {
+fn write_connected<L: Link>(link: &mut L, address: &Text, out: &mut Reply) {
     match link.connect(address) {
         Ok((from, to)) => {
             link.close(from, to);
-            out.push_str("connected")?;
+            out.push("connected ");
         }
-        Err(_) => out.push_str("failed")?,
+        Err(_) => out.push("failed "),
     }
-    Ok(write!(out, " {}", link.link_faults())?)
+    out.show(&link.link_faults());
 }
 
-fn write_listened<D: Doors>(doors: &mut D, address: &Text, out: &mut String) -> Result<(), Stop> {
-    out.push_str(if doors.listen(address).is_ok() {
-        "ok"
+fn write_listened<D: Doors>(doors: &mut D, address: &Text, out: &mut Reply) {
+    out.push(if doors.listen(address).is_ok() {
+        "ok "
     } else {
-        "failed"
-    })?;
-    Ok(write!(out, " {}", doors.door_faults())?)
+        "failed "
+    });
+    out.show(&doors.door_faults());
 }
 
 /// A port at which nobody listens any more.
-pub fn write_refused<R: Net + Clock>(rt: &R, alloc: Global, out: &mut String) -> Result<(), Stop> {
+pub fn write_refused<R: Net + Clock>(rt: &R, alloc: Global, out: &mut Reply) -> Result<(), Stop> {
     let (doors, port) = listening(rt, alloc)?;
     drop(doors);
-    write_connected(&mut TcpLink::new(rt), &address_of(alloc, port)?, out)
+    write_connected(&mut TcpLink::new(rt), &address_of(alloc, port)?, out);
+    Ok(())
 }
 
 /// A port at which somebody listens already.
-pub fn write_taken<R: Net + Clock>(rt: &R, alloc: Global, out: &mut String) -> Result<(), Stop> {
+pub fn write_taken<R: Net + Clock>(rt: &R, alloc: Global, out: &mut Reply) -> Result<(), Stop> {
     let (first, port) = listening(rt, alloc)?;
-    write_listened(&mut TcpDoors::new(rt), &address_of(alloc, port)?, out)?;
+    write_listened(&mut TcpDoors::new(rt), &address_of(alloc, port)?, out);
     drop(first);
     Ok(())
 }
 
 /// A text that is no address.
-pub fn write_nowhere<R: Net + Clock>(rt: &R, alloc: Global, out: &mut String) -> Result<(), Stop> {
+pub fn write_nowhere<R: Net + Clock>(rt: &R, alloc: Global, out: &mut Reply) -> Result<(), Stop> {
     let address = Text::from_str(alloc, "nowhere")?;
-    write_listened(&mut TcpDoors::new(rt), &address, out)?;
-    out.push_str(", ")?;
-    write_connected(&mut TcpLink::new(rt), &address, out)
+    write_listened(&mut TcpDoors::new(rt), &address, out);
+    out.push(", ");
+    write_connected(&mut TcpLink::new(rt), &address, out);
+    Ok(())
 }
 
 /// Doors that do not listen.
-pub fn write_unlistened<R: Net + Clock>(rt: &R, out: &mut String) -> Result<(), Stop> {
+pub fn write_unlistened<R: Net + Clock>(rt: &R, out: &mut Reply) {
     let mut doors = TcpDoors::new(rt);
     let is_some = matches!(doors.next(), Ok(Some(_)));
-    Ok(write!(out, "{is_some} {}", doors.door_faults())?)
+    out.push(if is_some { "true " } else { "false " });
+    out.show(&doors.door_faults());
 }

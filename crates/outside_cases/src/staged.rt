@@ -3,7 +3,7 @@
 ghost use Rattle.std.specs.Prelude.{◌<◌, length};
 
 use crate::peers::numbers;
-use case_words::{Stop, cut, number_in, size_in};
+use case_words::{Reply, Stop, cut, number_in, size_in};
 use ps_data::{Items, Text};
 use ps_doors::Doors;
 use ps_io::{Sink, Source};
@@ -159,15 +159,24 @@ fn take_one(network: Staged, address: &Text) -> (bool, u64) {
 }
 
 /// Whether a connection comes after these errors, how often the doors have failed, how often they accepted and slept, and for how long a write may stall.
-pub fn write_errors(alloc: Global, words: &str, out: &mut String) -> Result<(), Stop> {
+pub fn write_errors(alloc: Global, words: &str, out: &mut Reply) -> Result<(), Stop> {
     let stage = new_stage(numbers(alloc, words)?, 1, 0);
     let address = Text::from_str(alloc, "127.0.0.1:1")?;
     let (came, faults) = take_one(Staged { stage: &stage }, &address);
     let accepts = stage.accepts.load(Ordering::SeqCst);
     let sleeps = stage.sleeps.load(Ordering::SeqCst);
     let stall = stage.writes_wait.load(Ordering::SeqCst);
-    write!(out, "{came} {faults} faults")?;
-    Ok(write!(out, ", {accepts} accepts, {sleeps} sleeps, {stall} s")?)
+    out.show(&came);
+    out.push(" ");
+    out.show(&faults);
+    out.push(" faults, ");
+    out.show(&accepts);
+    out.push(" accepts, ");
+    out.show(&sleeps);
+    out.push(" sleeps, ");
+    out.show(&stall);
+    out.push(" s");
+    Ok(())
 }
 
 // More bytes than any part that is waited for.
@@ -203,12 +212,18 @@ fn read_first(network: Staged, address: &Text) -> Option<(usize, u64)> {
 }
 
 /// How many bytes come until a read fails, up to 100,000, and for how long the last read would have waited.
-pub fn write_slow(alloc: Global, words: &str, out: &mut String) -> Result<(), Stop> {
+pub fn write_slow(alloc: Global, words: &str, out: &mut Reply) -> Result<(), Stop> {
     let (seconds, bytes) = cut(words);
     let stage = new_stage(Items::new(alloc), size_in(bytes)?, number_in(seconds)?);
     let address = Text::from_str(alloc, "127.0.0.1:1")?;
     let read = read_first(Staged { stage: &stage }, &address);
     let (came, faults) = read.ok_or("no connection")?;
     let wait = stage.reads_wait.load(Ordering::SeqCst);
-    Ok(write!(out, "{came} bytes, {faults} faults, {wait} s")?)
+    out.show(&came);
+    out.push(" bytes, ");
+    out.show(&faults);
+    out.push(" faults, ");
+    out.show(&wait);
+    out.push(" s");
+    Ok(())
 }
