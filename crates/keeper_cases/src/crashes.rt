@@ -2,11 +2,12 @@
 
 use crate::desks::{opened, write_step};
 use crate::shown::write_tables;
-use crate::stores::{connected, crashed, empty};
+use crate::stores::{connected, empty, files_after, sure};
 use case_words::{Reply, Stop, cut};
 use ps_client::Client;
 use ps_client_log::Keeper;
 use ps_client_sqlite::SqliteKeeper;
+use sqlite::{Alter, Connection};
 use sqlite_disk::{Files, Memory};
 use std::alloc::Global;
 
@@ -40,25 +41,40 @@ fn take_steps<K: Keeper>(alloc: Global, client: &mut Client<K>, steps: &str) -> 
     Ok(taken)
 }
 
+// Takes steps of a client over a keeper, and gives that back.
+fn taken_over<K: Keeper + Drop>(alloc: Global, keeper: K, steps: &str) -> Result<(K, u64), Stop> {
+    let mut client = opened(alloc, keeper)?;
+    let taken = take_steps(alloc, &mut client, steps)?;
+    Ok((client.close(), taken))
+}
+
+// Takes steps over a database, and gives that back. None where its tables are not opened.
+fn steps_over<S: Alter + Drop>(
+    alloc: Global,
+    connection: Connection<S>,
+    steps: &str,
+) -> Result<Option<(Connection<S>, u64)>, Stop> {
+    let Ok(keeper) = SqliteKeeper::open(alloc, connection) else {
+        return Ok(None);
+    };
+    let (keeper, taken) = taken_over(alloc, keeper, steps)?;
+    Ok(Some((keeper.into_connection(), taken)))
+}
+
 // Takes steps over an empty database, until the keeper fails at one. None where the database is not opened.
 fn make_run(alloc: Global, calls: u64, steps: &str) -> Result<Option<Run>, Stop> {
     let Some(connection) = connected(alloc, empty(alloc), calls)? else {
         return Ok(None);
     };
-    let Ok(keeper) = SqliteKeeper::open(alloc, connection) else {
+    let Some((connection, taken)) = steps_over(alloc, connection, steps)? else {
         return Ok(None);
     };
-    let mut client = opened(alloc, keeper)?;
-    let taken = take_steps(alloc, &mut client, steps)?;
-    let files = crashed(alloc, client.close().into_connection())?;
+    let files = sure(alloc, &files_after(connection))?;
     Ok(Some(Run { files, taken }))
 }
 
-// The rows of all tables that files have.
-fn tables_in(alloc: Global, files: Files<Memory>) -> Result<Reply, Stop> {
-    let Some(connection) = connected(alloc, files, u64::MAX)? else {
-        return Err(Stop);
-    };
+// The rows of all tables of a database.
+fn tables_of<S: Alter + Drop>(alloc: Global, connection: Connection<S>) -> Result<Reply, Stop> {
     let Ok(keeper) = SqliteKeeper::open(alloc, connection) else {
         return Err(Stop);
     };
@@ -66,6 +82,14 @@ fn tables_in(alloc: Global, files: Files<Memory>) -> Result<Reply, Stop> {
     let mut out = Reply::new(alloc);
     write_tables(&mut connection, &mut out)?;
     Ok(out)
+}
+
+// The rows of all tables that files have.
+fn tables_in(alloc: Global, files: Files<Memory>) -> Result<Reply, Stop> {
+    match connected(alloc, files, u64::MAX)? {
+        Some(connection) => tables_of(alloc, connection),
+        None => Err(Stop),
+    }
 }
 
 // The rows of all tables after steps that nothing stops.

@@ -1,8 +1,7 @@
-//! A database over a disk in memory, and a client over it that is opened for each step.
+//! A database in memory, and a client over it that is opened for each step.
 
 use crate::events::{write_done, write_event, write_fault};
 use crate::shown::{write_rows, write_state, write_store_fault, write_tables};
-use crate::stores::{Store, connected, empty};
 use case_words::{Reply, Stop, number_in};
 use ps_changes::read_change;
 use ps_client::Client;
@@ -10,13 +9,13 @@ use ps_client_log::Keeper;
 use ps_client_sqlite::SqliteKeeper;
 use ps_data::{GREATEST, Text};
 use ps_lines::write_body;
-use sqlite::Connection;
+use sqlite::{Alter, Connection, MemStore};
 use std::alloc::Global;
 
 /// A database, where one is open.
 #[derive(Drop)]
 pub struct Desk {
-    connection: Option<Connection<Store>>,
+    connection: Option<Connection<MemStore>>,
 }
 
 fn write_request<K: Keeper>(
@@ -130,30 +129,30 @@ fn write_kept<K: Keeper>(alloc: Global, keeper: &mut K, out: &mut Reply) -> Resu
     }
 }
 
-// Takes a step of a client over a keeper.
-fn write_told(
+// Takes a step of a client over a keeper, and gives that back.
+fn write_told<K: Keeper + Drop>(
     alloc: Global,
-    keeper: SqliteKeeper<Store>,
+    keeper: K,
     word: &str,
     rest: &str,
     out: &mut Reply,
-) -> Result<Connection<Store>, Stop> {
+) -> Result<K, Stop> {
     if word == "state" {
         let mut keeper = keeper;
         write_kept(alloc, &mut keeper, out)?;
-        return Ok(keeper.into_connection());
+        return Ok(keeper);
     }
     let mut client = opened(alloc, keeper)?;
     write_step(alloc, &mut client, word, rest, out)?;
-    Ok(client.close().into_connection())
+    Ok(client.close())
 }
 
 // Opens the tables. Where they are not opened, the database is gone.
-fn write_opened(
+fn write_opened<S: Alter + Drop>(
     alloc: Global,
-    connection: Connection<Store>,
+    connection: Connection<S>,
     out: &mut Reply,
-) -> Option<Connection<Store>> {
+) -> Option<Connection<S>> {
     match SqliteKeeper::open(alloc, connection) {
         Ok(keeper) => {
             out.push("open");
@@ -166,23 +165,24 @@ fn write_opened(
     }
 }
 
-fn begun(alloc: Global, out: &mut Reply) -> Result<Option<Connection<Store>>, Stop> {
-    match connected(alloc, empty(alloc), u64::MAX)? {
-        Some(connection) => Ok(write_opened(alloc, connection, out)),
-        None => Err(Stop),
-    }
+fn begun(alloc: Global, out: &mut Reply) -> Result<Option<Connection<MemStore>>, Stop> {
+    let connection = Connection::open_in_memory(alloc)?;
+    Ok(write_opened(alloc, connection, out))
 }
 
 // Takes a step of a client over an open database.
-fn write_over(
+fn write_over<S: Alter + Drop>(
     alloc: Global,
-    connection: Connection<Store>,
+    connection: Connection<S>,
     word: &str,
     rest: &str,
     out: &mut Reply,
-) -> Result<Option<Connection<Store>>, Stop> {
+) -> Result<Option<Connection<S>>, Stop> {
     match SqliteKeeper::open(alloc, connection) {
-        Ok(keeper) => Ok(Some(write_told(alloc, keeper, word, rest, out)?)),
+        Ok(keeper) => {
+            let keeper = write_told(alloc, keeper, word, rest, out)?;
+            Ok(Some(keeper.into_connection()))
+        }
         Err(fault) => {
             write_store_fault(fault, out);
             Ok(None)
@@ -191,13 +191,13 @@ fn write_over(
 }
 
 // Takes a step on an open database.
-fn stepped(
+fn stepped<S: Alter + Drop>(
     alloc: Global,
-    connection: Connection<Store>,
+    connection: Connection<S>,
     word: &str,
     rest: &str,
     out: &mut Reply,
-) -> Result<Option<Connection<Store>>, Stop> {
+) -> Result<Option<Connection<S>>, Stop> {
     let mut connection = connection;
     match word {
         "sql" => {

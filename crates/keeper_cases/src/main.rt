@@ -1,6 +1,6 @@
 //! Answers the cases of its standard input, each a line, of a client whose state is kept in a database in memory.
 //!
-//! `new` begins with an empty database, over a disk in memory. Before each of the steps below the database's tables are opened anew, and a client over them; both are closed after it.
+//! `new` begins with an empty database. Before each of the steps below the database's tables are opened anew, and a client over them; both are closed after it.
 //!
 //! - `stream LINE..` begins a stream, prints its request, takes the lines, and prints what the client says to each.
 //! - `local CHANGE` writes locally, `upload` prints the next upload's body, `uploaded` lets it leave the queue, `number N` sets the write checkpoint, `rows` prints

@@ -1,6 +1,5 @@
 //! What a client keeps, and what its tables have, as text.
 
-use crate::stores::Store;
 use case_words::{Reply, Stop};
 use ps_client::Client;
 use ps_client_log::{BucketState, Held, Keeper, Shown, State, Target};
@@ -8,7 +7,7 @@ use ps_client_sqlite::StoreFault;
 use ps_client_tables::{read_aim, read_buckets, read_entries, read_queue, read_shown};
 use ps_rows::Change;
 use sqlite::types::ValueRef;
-use sqlite::{Connection, Row};
+use sqlite::{Alter, Connection, Row};
 use std::alloc::Global;
 
 /// Writes why a store was not opened.
@@ -137,7 +136,7 @@ fn write_table(name: &str, rows: &[Row], out: &mut Reply) -> Result<(), Stop> {
 }
 
 /// Writes the rows of all tables.
-pub fn write_tables(connection: &mut Connection<Store>, out: &mut Reply) -> Result<(), Stop> {
+pub fn write_tables<S: Alter>(connection: &mut Connection<S>, out: &mut Reply) -> Result<(), Stop> {
     write_table("buckets", read_buckets(connection)?.as_slice(), out)?;
     write_table("entries", read_entries(connection)?.as_slice(), out)?;
     write_table("queue", read_queue(connection)?.as_slice(), out)?;

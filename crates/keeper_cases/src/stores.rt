@@ -1,4 +1,5 @@
-//! Databases over a disk in memory. All of them are of one type: what a program reaches of a library is proved and built once for each type.
+//! Databases over a disk in memory. What owns one is generic in its store as far as it goes: a function that owns a database of this very type costs a
+//! minute and more of proof.
 
 use case_words::Stop;
 use sqlite::{Connection, FileStore, Options};
@@ -36,6 +37,22 @@ pub fn connected(
     }
 }
 
+// A file after a crash.
+fn crashed<D: Crash>(file: D) -> D {
+    let mut file = file;
+    file.crash();
+    file
+}
+
+/// The files of a database after a crash.
+pub fn files_after<D: Crash + Drop>(connection: Connection<FileStore<D>>) -> Files<D> {
+    let Files { log, db } = connection.into_store().close();
+    Files {
+        log: crashed(log),
+        db: crashed(db),
+    }
+}
+
 // A file with these bytes, all of them sure.
 fn file(alloc: Global, bytes: &[u8]) -> Result<Memory, Stop> {
     let mut memory = Memory::new(alloc);
@@ -43,20 +60,10 @@ fn file(alloc: Global, bytes: &[u8]) -> Result<Memory, Stop> {
     Ok(memory)
 }
 
-// What a crash leaves of a file.
-fn left(alloc: Global, file_before: Fuse<Memory>) -> Result<Memory, Stop> {
-    let mut before = file_before;
-    before.crash();
-    file(alloc, before.inner().bytes())
-}
-
-// Both files.
-fn both(log: Result<Memory, Stop>, db: Result<Memory, Stop>) -> Result<Files<Memory>, Stop> {
-    Ok(Files { log: log?, db: db? })
-}
-
-/// What a crash leaves of the files.
-pub fn crashed(alloc: Global, connection: Connection<Store>) -> Result<Files<Memory>, Stop> {
-    let Files { log, db } = connection.into_store().close();
-    both(left(alloc, log), left(alloc, db))
+/// Files with the same bytes, all of them sure.
+pub fn sure(alloc: Global, files: &Files<Fuse<Memory>>) -> Result<Files<Memory>, Stop> {
+    Ok(Files {
+        log: file(alloc, files.log.inner().bytes())?,
+        db: file(alloc, files.db.inner().bytes())?,
+    })
 }
