@@ -4,7 +4,7 @@ ghost use Rattle.std.specs.Prelude.{IfOk};
 ghost use Rattle.ps_lock.specs.Words.{IsSeatOf};
 
 use crate::cut;
-use case_words::{Stop, number_in, short_number_in};
+use case_words::{Reply, Stop, number_in, short_number_in};
 use lock_tests::{Counter, add, add_by_four, added_by_two, refreshed};
 use ps_lock::{Seat, StoreLock, open_lock};
 use std::alloc::Global;
@@ -32,7 +32,7 @@ fn write_sees<R: Wait>(
     alloc: Global,
     most: u64,
     amount: u64,
-    out: &mut String,
+    out: &mut Reply,
 ) -> Result<(), Stop> {
     let (lock, mut first) = made_counter(alloc, most)?;
     let second = lock.split(&mut first)?;
@@ -40,13 +40,18 @@ fn write_sees<R: Wait>(
     let (one, before) = (first.seen(), second.seen());
     let after = refreshed(rt, &lock, second).seen();
     let counter = lock.turn(rt, first).keep();
-    write!(
-        out,
-        "added {}, seen {one} and {before}, then {after}, kept {} of {}",
-        yes_or_no(added),
-        counter.total,
-        counter.most
-    )?;
+    out.push("added ");
+    out.push(yes_or_no(added));
+    out.push(", seen ");
+    out.show(&one);
+    out.push(" and ");
+    out.show(&before);
+    out.push(", then ");
+    out.show(&after);
+    out.push(", kept ");
+    out.show(&counter.total);
+    out.push(" of ");
+    out.show(&counter.most);
     Ok(())
 }
 
@@ -56,14 +61,17 @@ fn write_four<R: Threads + Wait + Sync>(
     alloc: Global,
     most: u64,
     times: u32,
-    out: &mut String,
+    out: &mut Reply,
 ) -> Result<(), Stop> {
     let (lock, seat) = made_counter(alloc, most)?;
     let seat = add_by_four(rt, &lock, seat, times).ok_or("no memory")?;
     let seat = refreshed(rt, &lock, seat);
     let seen = seat.seen();
     let counter = lock.turn(rt, seat).keep();
-    write!(out, "seen {seen}, kept {}", counter.total)?;
+    out.push("seen ");
+    out.show(&seen);
+    out.push(", kept ");
+    out.show(&counter.total);
     Ok(())
 }
 
@@ -73,18 +81,17 @@ fn write_fits<R: Wait>(
     alloc: Global,
     most: u64,
     amounts: (u64, u64),
-    out: &mut String,
+    out: &mut Reply,
 ) -> Result<(), Stop> {
     let (lock, seat) = made_counter(alloc, most)?;
     let (seat, first) = add(rt, &lock, seat, amounts.0);
     let (seat, second) = add(rt, &lock, seat, amounts.1);
-    write!(
-        out,
-        "added {} and {}, seen {}",
-        yes_or_no(first),
-        yes_or_no(second),
-        seat.seen()
-    )?;
+    out.push("added ");
+    out.push(yes_or_no(first));
+    out.push(" and ");
+    out.push(yes_or_no(second));
+    out.push(", seen ");
+    out.show(&seat.seen());
     Ok(())
 }
 
@@ -95,7 +102,7 @@ fn write_joins<R: Wait>(
     alloc: Global,
     most: u64,
     amounts: (u64, u64),
-    out: &mut String,
+    out: &mut Reply,
 ) -> Result<(), Stop> {
     let (lock, mut first) = made_counter(alloc, most)?;
     let second = lock.split(&mut first)?;
@@ -106,11 +113,14 @@ fn write_joins<R: Wait>(
     let (second, _) = add(rt, &lock, second, amounts.1);
     let (one, two) = (first.seen(), second.seen());
     lock.join_in(&mut first, second);
-    write!(
-        out,
-        "seen {joined}, then {one} and {two}, then {}",
-        first.seen()
-    )?;
+    out.push("seen ");
+    out.show(&joined);
+    out.push(", then ");
+    out.show(&one);
+    out.push(" and ");
+    out.show(&two);
+    out.push(", then ");
+    out.show(&first.seen());
     Ok(())
 }
 
@@ -120,18 +130,17 @@ fn write_adds<R: Threads + Wait + Sync>(
     alloc: Global,
     most: u64,
     amounts: (u64, u64),
-    out: &mut String,
+    out: &mut Reply,
 ) -> Result<(), Stop> {
     let (counter, first, second) = added_by_two(rt, alloc, most, amounts.0, amounts.1).ok_or(
         "no memory",
     )?;
-    write!(
-        out,
-        "added {} and {}, kept {}",
-        yes_or_no(first),
-        yes_or_no(second),
-        counter.total
-    )?;
+    out.push("added ");
+    out.push(yes_or_no(first));
+    out.push(" and ");
+    out.push(yes_or_no(second));
+    out.push(", kept ");
+    out.show(&counter.total);
     Ok(())
 }
 
@@ -141,7 +150,7 @@ fn write_two<R: Threads + Wait + Sync>(
     word: &str,
     most: u64,
     rest: &str,
-    out: &mut String,
+    out: &mut Reply,
 ) -> Result<(), Stop> {
     let (one, two) = cut(rest);
     let amounts = (number_in(one)?, number_in(two)?);
@@ -157,7 +166,7 @@ pub fn write_case<R: Threads + Wait + Sync>(
     rt: &R,
     alloc: Global,
     rest: &str,
-    out: &mut String,
+    out: &mut Reply,
 ) -> Result<(), Stop> {
     let (word, rest) = cut(rest);
     let (most, rest) = cut(rest);

@@ -1,7 +1,7 @@
 //! A diary under a lock, as `lock_tests` has it.
 
 use crate::cut;
-use case_words::{Stop, number_in};
+use case_words::{Reply, Stop, number_in};
 use lock_tests::{Diary, note, remark};
 use ps_data::Text;
 use ps_lock::open_lock;
@@ -14,14 +14,17 @@ fn write_kept<R: Wait>(
     alloc: Global,
     number: u64,
     text: Text,
-    out: &mut String,
+    out: &mut Reply,
 ) -> Result<(), Stop> {
     let (lock, seat) = open_lock(alloc, Diary::new(alloc)).ok().ok_or("no memory")?;
     let seat = note(rt, &lock, seat, number).ok().ok_or("no memory")?;
     let seat = remark(rt, &lock, seat, text);
     let seen = seat.seen();
     let diary = lock.turn(rt, seat).keep();
-    write!(out, "seen {seen}, kept {:?}", diary.numbers())?;
+    out.push("seen ");
+    out.show(&seen);
+    out.push(", kept ");
+    out.debug(&diary.numbers());
     Ok(())
 }
 
@@ -30,7 +33,7 @@ pub fn write_diary<R: Wait>(
     rt: &R,
     alloc: Global,
     rest: &str,
-    out: &mut String,
+    out: &mut Reply,
 ) -> Result<(), Stop> {
     let (number, text) = cut(rest);
     let number = number_in(number)?;

@@ -38,7 +38,7 @@ mod timed;
 mod turns;
 mod workers;
 
-use case_words::{Stop, cut, number_in, short_number_in};
+use case_words::{Reply, Stop, cut, number_in, short_number_in};
 use std::alloc::Global;
 use std::sync::Wait;
 use std::thread::Threads;
@@ -49,7 +49,7 @@ fn write_counts<R: Threads + Wait + Sync>(
     alloc: Global,
     word: &str,
     rest: &str,
-    out: &mut String,
+    out: &mut Reply,
 ) -> Result<(), Stop> {
     let (count, limit) = cut(rest);
     let count = short_number_in(count)?;
@@ -62,7 +62,7 @@ fn write_counts<R: Threads + Wait + Sync>(
     stores::write_store(alloc, &store, out)
 }
 
-fn write_drained<R: Wait>(rt: &R, alloc: Global, rest: &str, out: &mut String) -> Result<(), Stop> {
+fn write_drained<R: Wait>(rt: &R, alloc: Global, rest: &str, out: &mut Reply) -> Result<(), Stop> {
     let (count, rest) = cut(rest);
     let (batch, at) = cut(rest);
     let sizes = (
@@ -77,7 +77,7 @@ fn write_answer<R: Threads + Wait + Clock + Sync>(
     rt: &R,
     alloc: Global,
     line: &str,
-    out: &mut String,
+    out: &mut Reply,
 ) -> Result<(), Stop> {
     let (word, rest) = cut(line);
     match word {
@@ -92,7 +92,10 @@ fn write_answer<R: Threads + Wait + Clock + Sync>(
         "diary" => diaries::write_diary(rt, alloc, rest, out),
         "turns" | "wait" => turns::write_count(rt, alloc, word, rest, out),
         "longest" | "times" => timed::write_case(rt, alloc, word, rest, out),
-        _ => Ok(out.push_str(line)?),
+        _ => {
+            out.push(line);
+            Ok(())
+        }
     }
 }
 
@@ -100,9 +103,10 @@ fn answer_all<T: Threads + Wait + Clock + Sync>(rt: &HostRuntime, threads: &T) -
     let alloc = rt.alloc();
     'lines: for line in rt.lines(alloc) {
         let line = line?;
-        let mut out = String::new(alloc);
+        let mut out = Reply::new(alloc);
         write_answer(threads, alloc, line.as_str(), &mut out)?;
-        println!(rt; "{}", out.as_str())?;
+        let text = out.text()?;
+        println!(rt; "{text}")?;
     }
     Ok(())
 }

@@ -5,7 +5,7 @@ ghost use Rattle.ps_lock.specs.Words.{IsSeatOf};
 ghost use Rattle.ps_workers.specs.Sharing.{terms_of};
 
 use case_stores::{limits_of, rules_of, transaction_of};
-use case_words::{Stop, cut, number_in, short_number_in};
+use case_words::{Reply, Stop, cut, number_in, short_number_in};
 use ps_data::Memory;
 use ps_definitions::Rules;
 use ps_doors::QuietBell;
@@ -128,21 +128,40 @@ fn drain<R: Wait>(
 }
 
 // What is counted, but for the sum.
-fn write_kept(store: &Store, out: &mut String) -> Result<(), Stop> {
+fn write_kept(store: &Store, out: &mut Reply) {
     let checkpoint = store.checkpoint();
     let totals = store.totals();
-    write!(
-        out,
-        " checkpoint {} {} building {:?} totals {} {} {} {}",
-        checkpoint.position.0,
-        checkpoint.op.0,
-        store.building(),
-        totals.transactions,
-        totals.changes,
-        totals.operations,
-        totals.buckets
-    )?;
-    Ok(())
+    out.push(" checkpoint ");
+    out.show(&checkpoint.position.0);
+    out.push(" ");
+    out.show(&checkpoint.op.0);
+    out.push(" building ");
+    out.debug(&store.building());
+    out.push(" totals ");
+    out.show(&totals.transactions);
+    out.push(" ");
+    out.show(&totals.changes);
+    out.push(" ");
+    out.show(&totals.operations);
+    out.push(" ");
+    out.show(&totals.buckets);
+}
+
+// Begins a generation first where the word says so, and feeds what is to be written.
+fn begin_and_feed<R: Wait>(
+    rt: &R,
+    alloc: Global,
+    lock: &StoreLock<SharedStore>,
+    seat: Seat<SharedStore>,
+    word: &str,
+    rules: &Rules,
+) -> Result<Seat<SharedStore>, Stop>
+    requires seat { IsSeatOf lock.now seat }
+    requires next { (terms_of lock.now).next ≡ Some rules.now }
+    ensures { IfOk result (λ seat. IsSeatOf lock.now seat) }
+{
+    let seat = begin_before(rt, alloc, lock, seat, word, rules)?;
+    feed_lines(rt, alloc, lock, seat, word)
 }
 
 /// How a writer ended that was given rules that come once so many transactions are committed, at batches of a size, under limits; how many
@@ -152,7 +171,7 @@ pub fn write_renewed<R: Wait>(
     alloc: Global,
     word: &str,
     rest: &str,
-    out: &mut String,
+    out: &mut Reply,
 ) -> Result<(), Stop> {
     let (after, rest) = cut(rest);
     let (batch, limits) = cut(rest);
@@ -162,10 +181,12 @@ pub fn write_renewed<R: Wait>(
     let next = Some(rules_of(alloc, if word == "widen" { TWICE } else { UPPER })?);
     let (lock, seat) = open_store(alloc, rules_of(alloc, FIRST)?, &next, limits)?;
     let rules = next.unwrap();
-    let seat = begin_before(rt, alloc, &lock, seat, word, &rules)?;
-    let seat = feed_lines(rt, alloc, &lock, seat, word)?;
+    let seat = begin_and_feed(rt, alloc, &lock, seat, word, &rules)?;
     let (seat, end) = drain(rt, alloc, &lock, seat, NextRules { rules, after }, batch);
-    write!(out, "end {end:?} seen {}", seat.seen())?;
-    let store = lock.turn(rt, seat).keep().into_store();
-    write_kept(&store, out)
+    out.push("end ");
+    out.debug(&end);
+    out.push(" seen ");
+    out.show(&seat.seen());
+    write_kept(&lock.turn(rt, seat).keep().into_store(), out);
+    Ok(())
 }

@@ -3,7 +3,7 @@
 ghost use Rattle.std.specs.Prelude.{IfOk};
 ghost use Rattle.ps_lock.specs.Words.{IsSeatOf};
 
-use case_words::Stop;
+use case_words::{Reply, Stop};
 use ps_data::Text;
 use ps_gen::make_rules;
 use ps_lock::{Seat, StoreLock};
@@ -22,29 +22,35 @@ pub fn made_store(alloc: Global) -> Result<(StoreLock<SharedStore>, Seat<SharedS
 }
 
 // What the store counts.
-fn write_totals(store: &Store, out: &mut String) -> Result<(), Stop> {
+fn write_totals(store: &Store, out: &mut Reply) {
     let totals = store.totals();
-    write!(
-        out,
-        " totals {} {} {} {} {}",
-        totals.transactions, totals.changes, totals.operations, totals.buckets, totals.sum.0
-    )?;
-    Ok(())
+    out.push(" totals ");
+    out.show(&totals.transactions);
+    out.push(" ");
+    out.show(&totals.changes);
+    out.push(" ");
+    out.show(&totals.operations);
+    out.push(" ");
+    out.show(&totals.buckets);
+    out.push(" ");
+    out.show(&totals.sum.0);
 }
 
 /// The head, the checkpoint, how long the logs of the seven made buckets are, and the totals.
-pub fn write_store(alloc: Global, store: &Store, out: &mut String) -> Result<(), Stop> {
+pub fn write_store(alloc: Global, store: &Store, out: &mut Reply) -> Result<(), Stop> {
     let checkpoint = store.checkpoint();
-    write!(
-        out,
-        "head {} checkpoint {} {} logs",
-        store.head().0,
-        checkpoint.position.0,
-        checkpoint.op.0
-    )?;
+    out.push("head ");
+    out.show(&store.head().0);
+    out.push(" checkpoint ");
+    out.show(&checkpoint.position.0);
+    out.push(" ");
+    out.show(&checkpoint.op.0);
+    out.push(" logs");
     'owners: for owner in 0..7u32 {
         let name = Text::from_string(format!(in alloc; "mine[\"u{owner}\"]")?);
-        write!(out, " {}", store.log_length(&name))?;
+        out.push(" ");
+        out.show(&store.log_length(&name));
     }
-    write_totals(store, out)
+    write_totals(store, out);
+    Ok(())
 }

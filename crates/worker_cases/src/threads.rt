@@ -9,7 +9,7 @@ ghost use Rattle.ps_workers.specs.Sharing.{fixed_of};
 ghost use Rattle.ps_store.specs.Stores.{StoreStandsFor};
 
 use crate::stores::made_store;
-use case_words::Stop;
+use case_words::{Reply, Stop};
 use ps_data::{GREATEST, Items, Text};
 use ps_gen::make_input;
 use ps_lock::{Seat, StoreLock};
@@ -232,17 +232,22 @@ fn seats_of_two<R: Wait>(rt: &R, alloc: Global) -> Result<Seats, Stop> {
 }
 
 /// A first seat feeds a transaction: what a second seat has seen before its turn, and after one that adds nothing; and what a third turn keeps.
-pub fn write_seats<R: Wait>(rt: &R, alloc: Global, out: &mut String) -> Result<(), Stop> {
+pub fn write_seats<R: Wait>(rt: &R, alloc: Global, out: &mut Reply) -> Result<(), Stop> {
     let Seats {
         before,
         behind,
         head,
         unwritten,
     } = seats_of_two(rt, alloc)?;
-    write!(
-        out,
-        "seen {before} and {behind}, kept with head {head} and {unwritten} unwritten"
-    )?;
+    out.push("seen ");
+    out.show(&before);
+    out.push(" and ");
+    out.show(&behind);
+    out.push(", kept with head ");
+    out.show(&head);
+    out.push(" and ");
+    out.show(&unwritten);
+    out.push(" unwritten");
     Ok(())
 }
 
@@ -267,7 +272,7 @@ fn write_answers<R: Wait>(
     alloc: Global,
     asker: (&Text, &Text),
     uploads: (Items<Change>, Items<Change>),
-    out: &mut String,
+    out: &mut Reply,
 ) -> Result<(), Stop>
     requires before { All (λ (change : ChangeSeen). 0 < length change.table) uploads.0 }
     requires after { All (λ (change : ChangeSeen). 0 < length change.table) uploads.1 }
@@ -279,17 +284,22 @@ fn write_answers<R: Wait>(
     let (seat, two) = number_in_turn(rt, alloc, &lock, seat, user, client);
     let seat = close_in_turn(rt, &lock, seat);
     let (seat, refused) = upload_in_turn(rt, alloc, &lock, seat, second);
-    write!(
-        out,
-        "upload {uploaded:?} numbers {one:?} {two:?} closed {refused:?} seen {}",
-        seat.seen()
-    )?;
+    out.push("upload ");
+    out.debug(&uploaded);
+    out.push(" numbers ");
+    out.debug(&one);
+    out.push(" ");
+    out.debug(&two);
+    out.push(" closed ");
+    out.debug(&refused);
+    out.push(" seen ");
+    out.show(&seat.seen());
     Ok(())
 }
 
 /// A seat uploads a change, asks for two numbers of a client, closes the feed and uploads once more: what each call answers, and how many
 /// events the seat has seen.
-pub fn write_requests<R: Wait>(rt: &R, alloc: Global, out: &mut String) -> Result<(), Stop> {
+pub fn write_requests<R: Wait>(rt: &R, alloc: Global, out: &mut Reply) -> Result<(), Stop> {
     let user = Text::from_str(alloc, "ann")?;
     let client = Text::from_str(alloc, "phone")?;
     let uploads = (one_change(alloc)?, one_change(alloc)?);

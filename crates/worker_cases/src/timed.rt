@@ -7,7 +7,7 @@ ghost use Rattle.ps_lock.specs.Words.{IsSeatOf};
 
 use crate::stores::made_store;
 use crate::threads::feed_all;
-use case_words::{Stop, cut, short_number_in};
+use case_words::{Reply, Stop, cut, short_number_in};
 use ps_data::{OpId, Text};
 use ps_gen::make_input;
 use ps_lock::{Seat, StoreLock};
@@ -234,40 +234,35 @@ fn percentile(times: &[u64], percent: usize) -> u64 {
 }
 
 // How many turns there were, and the half, the 99th percentile and the longest of their times.
-fn write_spread(mut times: Vec<u64>, out: &mut String) -> Result<(), Stop> {
+fn write_spread(mut times: Vec<u64>, out: &mut Reply) -> Result<(), Stop> {
     times.sort()?;
     let times = times.as_slice();
-    write!(
-        out,
-        "{} {} {} {}",
-        times.len(),
-        percentile(times, 50),
-        percentile(times, 99),
-        percentile(times, 100)
-    )?;
+    out.show(&times.len());
+    out.push(" ");
+    out.show(&percentile(times, 50));
+    out.push(" ");
+    out.show(&percentile(times, 99));
+    out.push(" ");
+    out.show(&percentile(times, 100));
     Ok(())
 }
 
-fn write_longest(wrote: &Turns, read: &Turns, out: &mut String) -> Result<(), Stop> {
-    write!(
-        out,
-        "{} turns wrote, {} changes and {} operations at most; ",
-        wrote.times.len(),
-        wrote.changes,
-        wrote.operations
-    )?;
-    write!(
-        out,
-        "{} read, {} operations at most",
-        read.times.len(),
-        read.operations
-    )?;
-    Ok(())
+fn write_longest(wrote: &Turns, read: &Turns, out: &mut Reply) {
+    out.show(&wrote.times.len());
+    out.push(" turns wrote, ");
+    out.show(&wrote.changes);
+    out.push(" changes and ");
+    out.show(&wrote.operations);
+    out.push(" operations at most; ");
+    out.show(&read.times.len());
+    out.push(" read, ");
+    out.show(&read.operations);
+    out.push(" operations at most");
 }
 
-fn write_times(wrote: Turns, read: Turns, out: &mut String) -> Result<(), Stop> {
+fn write_times(wrote: Turns, read: Turns, out: &mut Reply) -> Result<(), Stop> {
     write_spread(wrote.times, out)?;
-    out.push_str(" ")?;
+    out.push(" ");
     write_spread(read.times, out)
 }
 
@@ -279,7 +274,7 @@ pub fn write_case<R: Wait + Clock>(
     alloc: Global,
     word: &str,
     rest: &str,
-    out: &mut String,
+    out: &mut Reply,
 ) -> Result<(), Stop> {
     let (streams, rest) = cut(rest);
     let (count, batch) = cut(rest);
@@ -302,6 +297,7 @@ pub fn write_case<R: Wait + Clock>(
     if word == "times" {
         write_times(writer.turns, read, out)
     } else {
-        write_longest(&writer.turns, &read, out)
+        write_longest(&writer.turns, &read, out);
+        Ok(())
     }
 }

@@ -4,7 +4,7 @@ ghost use Rattle.std.specs.Prelude.{◌≡◌, length};
 ghost use Rattle.ps_lock.specs.Words.{IsSeatOf};
 
 use crate::cut;
-use case_words::{Stop, short_number_in};
+use case_words::{Reply, Stop, short_number_in};
 use ps_lock::{Kept, Seat, StoreLock, open_lock};
 use std::alloc::Global;
 use std::sync::Wait;
@@ -164,12 +164,12 @@ pub fn write_count<R: Threads + Wait + Clock + Sync>(
     alloc: Global,
     kind: &str,
     rest: &str,
-    out: &mut String,
+    out: &mut Reply,
 ) -> Result<(), Stop> {
     let (seats, amount) = cut(rest);
     match count_for(rt, alloc, kind, seats, amount) {
-        Some(count) => write!(out, "{count}")?,
-        None => out.push_str("nothing")?,
+        Some(count) => out.show(&count),
+        None => out.push("nothing"),
     }
     Ok(())
 }

@@ -8,7 +8,7 @@ ghost use Rattle.ps_store.specs.Limits.{greatest};
 
 use crate::stores::{made_store, write_store};
 use crate::threads::{commit_often, write_often};
-use case_words::Stop;
+use case_words::{Reply, Stop};
 use ps_data::{GREATEST, Items};
 use ps_doors::{Bell, QuietBell};
 use ps_gen::make_input;
@@ -134,7 +134,7 @@ pub fn write_drained<R: Wait>(
     rt: &R,
     alloc: Global,
     sizes: (u32, u32, u64),
-    out: &mut String,
+    out: &mut Reply,
 ) -> Result<(), Stop> {
     let given = low(falling(alloc, sizes.0)?).ok_or("a position is too great")?;
     let (lock, seat) = made_store(alloc)?;
@@ -145,11 +145,17 @@ pub fn write_drained<R: Wait>(
         written,
         compacted,
     } = ends;
-    write!(
-        out,
-        "ends {fed:?} {swept:?} {written:?} {compacted:?} seen {} ",
-        seat.seen()
-    )?;
+    out.push("ends ");
+    out.debug(&fed);
+    out.push(" ");
+    out.debug(&swept);
+    out.push(" ");
+    out.debug(&written);
+    out.push(" ");
+    out.debug(&compacted);
+    out.push(" seen ");
+    out.show(&seat.seen());
+    out.push(" ");
     let store = lock.turn(rt, seat).keep().into_store();
     write_store(alloc, &store, out)
 }
