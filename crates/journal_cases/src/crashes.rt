@@ -2,7 +2,7 @@
 
 use crate::desks::{content_in, play};
 use crate::shown::opened;
-use case_words::{Stop, cut, number_in};
+use case_words::{Reply, Stop, cut, number_in};
 use ps_data::Items;
 use ps_journal::{MemoryDisk, Moment, Told, left_by_crash};
 use std::alloc::Global;
@@ -14,20 +14,22 @@ const FILLERS: [u8; 4] = [0, 1, 7, 255];
 #[derive(Drop)]
 struct Seen {
     count: u64,
-    answers: Vec<String>,
+    answers: Vec<Reply>,
 }
 
 /// Answers `cuts`: each run of lengths with one answer.
-pub fn write_cuts(alloc: Global, word: &str, out: &mut String) -> Result<(), Stop> {
+pub fn write_cuts(alloc: Global, word: &str, out: &mut Reply) -> Result<(), Stop> {
     let content = content_in(alloc, word)?;
-    let mut before = String::new(alloc);
+    let mut before = Reply::new(alloc);
     'lengths: for length in 0..=content.len() {
         let answer = opened(alloc, &content[..length])?;
-        if answer.as_str() != before.as_str() {
+        if answer.text()? != before.text()? {
             if length > 0 {
-                out.push(' ')?;
+                out.push(" ");
             }
-            write!(out, "{length}:{answer}")?;
+            out.show(&length);
+            out.push(":");
+            out.push(answer.text()?);
             before = answer;
         }
     }
@@ -35,14 +37,12 @@ pub fn write_cuts(alloc: Global, word: &str, out: &mut String) -> Result<(), Sto
 }
 
 // Counts an answer, and notes it if it is new.
-fn note(seen: &mut Seen, answer: String) -> Result<(), Stop> {
+fn note(seen: &mut Seen, answer: Reply) -> Result<(), Stop> {
     seen.count = seen.count.saturating_add(1);
-    if seen
-        .answers
-        .iter()
-        .any(|known| known.as_str() == answer.as_str())
-    {
-        return Ok(());
+    'answers: for known in seen.answers.iter() {
+        if known.text()? == answer.text()? {
+            return Ok(());
+        }
     }
     Ok(seen.answers.push(answer)?)
 }
@@ -225,13 +225,14 @@ fn written_from(told: &Told, from: usize) -> &[u8] {
     told.content.as_slice()
 }
 
-fn push_seen(seen: &Seen, out: &mut String) -> Result<(), Stop> {
-    write!(out, "{}:", seen.count)?;
+fn push_seen(seen: &Seen, out: &mut Reply) -> Result<(), Stop> {
+    out.show(&seen.count);
+    out.push(":");
     'answers: for (place, answer) in seen.answers.iter().enumerate() {
         if place > 0 {
-            out.push('|')?;
+            out.push("|");
         }
-        out.push_str(answer.as_str())?;
+        out.push(answer.text()?);
     }
     Ok(())
 }
@@ -241,7 +242,7 @@ fn push_moment(
     moment: &Moment,
     written: &[u8],
     reach: Reach,
-    out: &mut String,
+    out: &mut Reply,
 ) -> Result<(), Stop> {
     let mut seen = Seen {
         count: 0,
@@ -252,10 +253,10 @@ fn push_moment(
     push_seen(&seen, out)
 }
 
-fn push_moments(alloc: Global, told: &Told, reach: Reach, out: &mut String) -> Result<(), Stop> {
+fn push_moments(alloc: Global, told: &Told, reach: Reach, out: &mut Reply) -> Result<(), Stop> {
     'moments: for (place, moment) in told.past.as_slice().iter().enumerate() {
         push_moment(alloc, moment, written_from(told, place), reach, out)?;
-        out.push(' ')?;
+        out.push(" ");
     }
     push_moment(alloc, &told.now, told.content.as_slice(), reach, out)
 }
@@ -265,30 +266,31 @@ pub fn write_moments(
     alloc: Global,
     words: &str,
     reach: Reach,
-    out: &mut String,
+    out: &mut Reply,
 ) -> Result<(), Stop> {
     let disk = MemoryDisk::new(alloc, Items::new(alloc), Items::new(alloc))?;
-    let mut answers = String::new(alloc);
+    let mut answers = Reply::new(alloc);
     let disk = play(alloc, disk, words, &mut answers)?;
     push_moments(alloc, disk.told(), reach, out)
 }
 
-fn push_failing(alloc: Global, call: u64, words: &str, out: &mut String) -> Result<(), Stop> {
+fn push_failing(alloc: Global, call: u64, words: &str, out: &mut Reply) -> Result<(), Stop> {
     let failing = Items::from_vec(vec![in alloc; call]?);
     let disk = MemoryDisk::new(alloc, Items::new(alloc), failing)?;
-    write!(out, "{call}: ")?;
+    out.show(&call);
+    out.push(": ");
     let disk = play(alloc, disk, words, out)?;
-    out.push_str(" -> ")?;
+    out.push(" -> ");
     let told = disk.told();
     push_moment(alloc, &told.now, told.content.as_slice(), Reach::Torn, out)
 }
 
 /// Answers `fails`, with a line for each call.
-pub fn write_fails(alloc: Global, line: &str, out: &mut String) -> Result<(), Stop> {
+pub fn write_fails(alloc: Global, line: &str, out: &mut Reply) -> Result<(), Stop> {
     let (count, words) = cut(line);
     'calls: for call in 1..=number_in(count)? {
         if call > 1 {
-            out.push('\n')?;
+            out.push("\n");
         }
         push_failing(alloc, call, words, out)?;
     }

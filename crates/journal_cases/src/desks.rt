@@ -3,7 +3,7 @@ ghost use Rattle.std.specs.Prelude.{IfOk, IfSome};
 ghost use Rattle.ps_journal.specs.Records.{IsRecord};
 
 use crate::shown::{push_fault, push_records};
-use case_words::{Stop, cut, number_in, push_shown, push_spelled};
+use case_words::{Reply, Stop, cut, number_in, push_spelled};
 use ps_data::{Items, Text};
 use ps_journal::{AppendFault, Disk, Disks, Journal, MemoryDisk, MemoryDisks, Record, run_once};
 use std::alloc::Global;
@@ -45,56 +45,49 @@ pub fn content_in(alloc: Global, word: &str) -> Result<Vec<u8>, Stop> {
     with_byte(alloc, &content, b'^', 7)
 }
 
-fn push_content(alloc: Global, content: &[u8], out: &mut String) -> Result<(), Stop> {
+fn push_content(alloc: Global, content: &[u8], out: &mut Reply) -> Result<(), Stop> {
     let shown = with_byte(alloc, content, 1, b'@')?;
     let shown = with_byte(alloc, &shown, 7, b'^')?;
-    Ok(push_shown(&shown, out)?)
-}
-
-fn body_of(alloc: Global, before: &str, number: &str, behind: &str) -> Result<String, Stop> {
-    let mut body = String::from_str(alloc, before)?;
-    body.push_str(number)?;
-    body.push_str(behind)?;
-    Ok(body)
+    out.spell(&shown);
+    Ok(())
 }
 
 // The body of the record that a word stands for.
-fn body_in(alloc: Global, word: &str) -> Result<String, Stop> {
+fn body_in(alloc: Global, word: &str) -> Reply {
+    let mut body = Reply::new(alloc);
     if let Some(number) = word.strip_prefix("u") {
-        return body_of(
-            alloc,
-            r#"{"upload":{"changes":[],"pos":""#,
-            number,
-            r#""}}"#,
-        );
+        body.push(r#"{"upload":{"changes":[],"pos":""#);
+        body.push(number);
+        body.push(r#""}}"#);
+    } else if let Some(number) = word.strip_prefix("n") {
+        body.push(r#"{"number":{"client":"c","head":""#);
+        body.push(number);
+        body.push(r#"","number":""#);
+        body.push(number);
+        body.push(r#"","user":"u"}}"#);
+    } else {
+        body.push(word);
     }
-    if let Some(number) = word.strip_prefix("n") {
-        let head = body_of(
-            alloc,
-            r#"{"number":{"client":"c","head":""#,
-            number,
-            r#"","number":""#,
-        )?;
-        return body_of(alloc, head.as_str(), number, r#"","user":"u"}}"#);
-    }
-    Ok(String::from_str(alloc, word)?)
+    body
 }
 
 /// The record that a word stands for.
 pub fn record_in(alloc: Global, word: &str) -> Result<Option<Record>, Stop>
     ensures { IfOk result (λ found. IfSome found IsRecord) }
 {
-    let body = body_in(alloc, word)?;
-    Ok(Record::read(alloc, body.as_bytes())?)
+    let body = body_in(alloc, word);
+    Ok(Record::read(alloc, body.text()?.as_bytes())?)
 }
 
-fn push_refusal(out: &mut String, fault: AppendFault) -> Result<(), Stop> {
+fn push_refusal(out: &mut Reply, fault: AppendFault) {
     match fault {
-        AppendFault::KeepFull { bytes } => write!(out, "full:{bytes}")?,
-        AppendFault::KeepFailed => out.push_str("failed")?,
-        AppendFault::Memory => out.push_str("memory")?,
+        AppendFault::KeepFull { bytes } => {
+            out.push("full:");
+            out.show(&bytes);
+        }
+        AppendFault::KeepFailed => out.push("failed"),
+        AppendFault::Memory => out.push("memory"),
     }
-    Ok(())
 }
 
 /// Appends a record, and takes it back where it is to be taken back.
@@ -102,63 +95,60 @@ pub fn append<D: Disk>(
     alloc: Global,
     journal: &mut Journal<D>,
     word: &str,
-    out: &mut String,
+    out: &mut Reply,
 ) -> Result<(), Stop> {
     let Some(record) = record_in(alloc, word.strip_prefix("~").unwrap_or(word))? else {
-        return Ok(out.push_str("no-record")?);
+        out.push("no-record");
+        return Ok(());
     };
     match journal.append(alloc, &record) {
         Ok(()) => {
             if word.starts_with("~") {
                 journal.take_back();
             }
-            Ok(out.push_str("ok")?)
+            out.push("ok");
         }
         Err(fault) => push_refusal(out, fault),
     }
+    Ok(())
 }
 
-fn open(alloc: Global, disk: MemoryDisk, out: &mut String) -> Result<Desk, Stop> {
+fn open(alloc: Global, disk: MemoryDisk, out: &mut Reply) -> Desk {
     match Journal::open(alloc, disk) {
         Ok((journal, records)) => {
-            push_records(out, &records)?;
-            Ok(Desk::Kept(journal))
+            push_records(out, &records);
+            Desk::Kept(journal)
         }
         Err((disk, fault)) => {
-            push_fault(out, fault)?;
-            Ok(Desk::Bare(disk))
+            push_fault(out, fault);
+            Desk::Bare(disk)
         }
     }
 }
 
 // Opens, appends and closes.
-fn append_once(
-    alloc: Global,
-    disk: MemoryDisk,
-    word: &str,
-    out: &mut String,
-) -> Result<Desk, Stop> {
+fn append_once(alloc: Global, disk: MemoryDisk, word: &str, out: &mut Reply) -> Result<Desk, Stop> {
     let Some(record) = record_in(alloc, word)? else {
         return Err("no record".into());
     };
     let (disk, kept) = run_once(alloc, disk, &record);
-    out.push_str(if kept { "kept" } else { "not-kept" })?;
+    out.push(if kept { "kept" } else { "not-kept" });
     Ok(Desk::Bare(disk))
 }
 
 // What a word does to a disk that is not opened.
-fn step_bare(alloc: Global, disk: MemoryDisk, word: &str, out: &mut String) -> Result<Desk, Stop> {
+fn step_bare(alloc: Global, disk: MemoryDisk, word: &str, out: &mut Reply) -> Result<Desk, Stop> {
     if let Some(word) = word.strip_prefix("once:") {
         return append_once(alloc, disk, word, out);
     }
     match word {
-        "open" => open(alloc, disk, out),
+        "open" => Ok(open(alloc, disk, out)),
         "bytes" => {
             push_content(alloc, disk.told().content.as_slice(), out)?;
             Ok(Desk::Bare(disk))
         }
         _ => {
-            out.push_str("closed")?;
+            out.push("closed");
             Ok(Desk::Bare(disk))
         }
     }
@@ -169,10 +159,10 @@ fn step_kept(
     alloc: Global,
     journal: Journal<MemoryDisk>,
     word: &str,
-    out: &mut String,
+    out: &mut Reply,
 ) -> Result<Desk, Stop> {
     if word == "close" {
-        out.push_str("closed")?;
+        out.push("closed");
         return Ok(Desk::Bare(journal.close()));
     }
     let mut journal = journal;
@@ -180,7 +170,7 @@ fn step_kept(
     Ok(Desk::Kept(journal))
 }
 
-fn step(alloc: Global, desk: Desk, word: &str, out: &mut String) -> Result<Desk, Stop> {
+fn step(alloc: Global, desk: Desk, word: &str, out: &mut Reply) -> Result<Desk, Stop> {
     match desk {
         Desk::Bare(disk) => step_bare(alloc, disk, word, out),
         Desk::Kept(journal) => step_kept(alloc, journal, word, out),
@@ -192,12 +182,12 @@ pub fn play(
     alloc: Global,
     disk: MemoryDisk,
     words: &str,
-    out: &mut String,
+    out: &mut Reply,
 ) -> Result<MemoryDisk, Stop> {
     let mut desk = Desk::Bare(disk);
     'words: for (place, word) in words.split(' ').enumerate() {
         if place > 0 {
-            out.push(' ')?;
+            out.push(" ");
         }
         desk = step(alloc, desk, word, out)?;
     }
@@ -208,7 +198,7 @@ pub fn play(
 }
 
 /// Answers `run`.
-pub fn run(alloc: Global, line: &str, out: &mut String) -> Result<(), Stop> {
+pub fn run(alloc: Global, line: &str, out: &mut Reply) -> Result<(), Stop> {
     let (failing, rest) = cut(line);
     let (content, words) = cut(rest);
     let content = Items::from_vec(content_in(alloc, content)?);
@@ -225,28 +215,28 @@ fn open_once(alloc: Global, disk: MemoryDisk) -> MemoryDisk {
     }
 }
 
-fn visit<M: Disks<D = MemoryDisk>>(
-    alloc: Global,
-    disks: &mut M,
-    name: &Text,
-    out: &mut String,
-) -> Result<(), Stop> {
+fn visit<M: Disks<D = MemoryDisk>>(alloc: Global, disks: &mut M, name: &Text, out: &mut Reply) {
     let Ok(disk) = disks.open(name) else {
-        return Ok(out.push_str("failed")?);
+        out.push("failed");
+        return;
     };
     let again = disks.open(name).is_ok();
     let before = disks.open_faults();
     disks.close(open_once(alloc, disk));
     let after = disks.open_faults();
-    Ok(write!(out, "again {again} {before}, closed {after}")?)
+    out.push(if again { "again true " } else { "again false " });
+    out.show(&before);
+    out.push(", closed ");
+    out.show(&after);
 }
 
 /// Answers `disks`.
-pub fn write_disks(alloc: Global, word: &str, out: &mut String) -> Result<(), Stop> {
+pub fn write_disks(alloc: Global, word: &str, out: &mut Reply) -> Result<(), Stop> {
     let disk = MemoryDisk::new(alloc, Items::new(alloc), failing_in(alloc, word)?)?;
     let mut disks = MemoryDisks::new(disk);
     let name = Text::from_str(alloc, "any")?;
-    visit(alloc, &mut disks, &name, out)?;
-    out.push_str("; ")?;
-    visit(alloc, &mut disks, &name, out)
+    visit(alloc, &mut disks, &name, out);
+    out.push("; ");
+    visit(alloc, &mut disks, &name, out);
+    Ok(())
 }

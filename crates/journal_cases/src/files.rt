@@ -4,7 +4,7 @@ ghost use Rattle.ps_journal.specs.Records.{IsRecord};
 
 use crate::desks::append;
 use crate::shown::push_fault;
-use case_words::{Stop, cut, number_in, short_number_in};
+use case_words::{Reply, Stop, cut, number_in, short_number_in};
 use ps_data::{GREATEST, Items, Position, Text};
 use ps_journal::{Disk, Disks, FileDisk, FileDisks, Journal, Record};
 use std::alloc::Global;
@@ -177,26 +177,26 @@ fn keep_all(
     alloc: Global,
     journal: &mut Journal<FileDisk>,
     words: &str,
-    out: &mut String,
+    out: &mut Reply,
 ) -> Result<(), Stop> {
     'words: for word in words.split(' ') {
-        out.push(' ')?;
+        out.push(" ");
         append(alloc, journal, word, out)?;
     }
     Ok(())
 }
 
 // Opens a journal, appends, and gives the disk back.
-fn keep_on(alloc: Global, disk: FileDisk, words: &str, out: &mut String) -> Result<FileDisk, Stop> {
+fn keep_on(alloc: Global, disk: FileDisk, words: &str, out: &mut Reply) -> Result<FileDisk, Stop> {
     match Journal::open(alloc, disk) {
         Ok((journal, records)) => {
-            write!(out, "{}", records.len())?;
+            out.show(&records.len());
             let mut journal = journal;
             keep_all(alloc, &mut journal, words, out)?;
             Ok(journal.close())
         }
         Err((disk, fault)) => {
-            push_fault(out, fault)?;
+            push_fault(out, fault);
             Ok(disk)
         }
     }
@@ -207,10 +207,11 @@ pub fn keep(rt: HostRuntime, line: &str) -> Result<(), Stop> {
     let (name, words) = cut(line);
     let mut disks = FileDisks::new(rt);
     let disk = open_disk(rt, &mut disks, name)?;
-    let mut out = String::new(rt.alloc());
+    let mut out = Reply::new(rt.alloc());
     let disk = keep_on(rt.alloc(), disk, words, &mut out)?;
     disks.close(disk);
-    Ok(println!(rt; "{out}")?)
+    let text = out.text()?;
+    Ok(println!(rt; "{text}")?)
 }
 
 /// Answers `twice`.

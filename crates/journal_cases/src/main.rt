@@ -26,12 +26,12 @@ mod desks;
 mod files;
 mod shown;
 
-use case_words::{Stop, cut};
+use case_words::{Reply, Stop, cut};
 use crashes::Reach;
 use std::alloc::Global;
 use std::io;
 
-fn answer_in_memory(alloc: Global, line: &str, out: &mut String) -> Result<(), Stop> {
+fn answer_in_memory(alloc: Global, line: &str, out: &mut Reply) -> Result<(), Stop> {
     let (word, rest) = cut(line);
     match word {
         "run" => desks::run(alloc, rest, out),
@@ -40,7 +40,10 @@ fn answer_in_memory(alloc: Global, line: &str, out: &mut String) -> Result<(), S
         "every" => crashes::write_moments(alloc, rest, Reach::Every, out),
         "disks" => desks::write_disks(alloc, rest, out),
         "fails" => crashes::write_fails(alloc, rest, out),
-        _ => Ok(out.push_str(line)?),
+        _ => {
+            out.push(line);
+            Ok(())
+        }
     }
 }
 
@@ -66,9 +69,10 @@ fn answer_all(rt: HostRuntime) -> Result<(), Stop> {
         if answer_on_file(rt, line)? {
             continue;
         }
-        let mut out = String::new(rt.alloc());
+        let mut out = Reply::new(rt.alloc());
         answer_in_memory(rt.alloc(), line, &mut out)?;
-        println!(rt; "{out}")?;
+        let text = out.text()?;
+        println!(rt; "{text}")?;
     }
     Ok(())
 }

@@ -1,69 +1,85 @@
 //! Records and answers, as they are printed.
 
-use case_words::Stop;
-use ps_data::{Items, Memory};
+use case_words::{Reply, Stop};
+use ps_data::Items;
 use ps_journal::{Journal, MemoryDisk, OpenFault, Record};
 use std::alloc::Global;
 
-fn push_record(out: &mut String, record: &Record) -> Result<(), Memory> {
+fn push_part(out: &mut Reply, text: &str, number: u64) {
+    out.push(text);
+    out.show(&number);
+}
+
+fn push_record(out: &mut Reply, record: &Record) {
     match record {
         Record::Upload { position, changes } => {
-            let changes = changes.as_slice().len();
-            write!(out, "u{}", position.0)?;
-            if changes > 0 {
-                write!(out, "({changes})")?;
-            }
-            Ok(())
+            push_part(out, "u", position.0);
+            push_count(out, changes.as_slice().len());
         }
         Record::Number {
             user,
             client,
             number,
             head,
-        } => Ok(write!(
-            out,
-            "n{number}({},{},{})",
-            user.as_str(),
-            client.as_str(),
-            head.0
-        )?),
+        } => {
+            push_part(out, "n", *number);
+            out.push("(");
+            out.push(user.as_str());
+            out.push(",");
+            out.push(client.as_str());
+            push_part(out, ",", head.0);
+            out.push(")");
+        }
+    }
+}
+
+// How many changes there are, if any.
+fn push_count(out: &mut Reply, changes: usize) {
+    if changes > 0 {
+        out.push("(");
+        out.show(&changes);
+        out.push(")");
     }
 }
 
 /// The records with a `+` between them, or `none`.
-pub fn push_records(out: &mut String, records: &[Record]) -> Result<(), Memory> {
+pub fn push_records(out: &mut Reply, records: &[Record]) {
     if records.is_empty() {
-        return Ok(out.push_str("none")?);
+        out.push("none");
     }
     'records: for (place, record) in records.iter().enumerate() {
         if place > 0 {
-            out.push('+')?;
+            out.push("+");
         }
-        push_record(out, record)?;
+        push_record(out, record);
     }
-    Ok(())
 }
 
 /// Why a journal was not opened.
-pub fn push_fault(out: &mut String, fault: OpenFault) -> Result<(), Memory> {
+pub fn push_fault(out: &mut Reply, fault: OpenFault) {
     match fault {
-        OpenFault::NotJournal => out.push_str("not-journal")?,
-        OpenFault::Damaged { at } => write!(out, "damaged@{at}")?,
-        OpenFault::TooLong { seen } => write!(out, "too-long:{seen}")?,
-        OpenFault::Failed => out.push_str("failed")?,
-        OpenFault::Memory => out.push_str("memory")?,
+        OpenFault::NotJournal => out.push("not-journal"),
+        OpenFault::Damaged { at } => {
+            out.push("damaged@");
+            out.show(&at);
+        }
+        OpenFault::TooLong { seen } => {
+            out.push("too-long:");
+            out.show(&seen);
+        }
+        OpenFault::Failed => out.push("failed"),
+        OpenFault::Memory => out.push("memory"),
     }
-    Ok(())
 }
 
 /// What opening a disk with these bytes answers.
-pub fn opened(alloc: Global, content: &[u8]) -> Result<String, Stop> {
+pub fn opened(alloc: Global, content: &[u8]) -> Result<Reply, Stop> {
     let content = Items::from_vec(Vec::from_slice(alloc, content)?);
     let disk = MemoryDisk::new(alloc, content, Items::new(alloc))?;
-    let mut answer = String::new(alloc);
+    let mut answer = Reply::new(alloc);
     match Journal::open(alloc, disk) {
-        Ok((_journal, records)) => push_records(&mut answer, &records)?,
-        Err((_disk, fault)) => push_fault(&mut answer, fault)?,
+        Ok((_journal, records)) => push_records(&mut answer, &records),
+        Err((_disk, fault)) => push_fault(&mut answer, fault),
     }
     Ok(answer)
 }
