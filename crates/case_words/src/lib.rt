@@ -1,4 +1,4 @@
-//! What the programs of cases read their lines with: words, numbers, and bytes that fit no line.
+//! What the programs of cases read their lines with: words, numbers, and bytes that fit no line; and the replies that they write.
 #![tactic(auto)]
 
 mod escapes;
