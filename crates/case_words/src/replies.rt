@@ -1,7 +1,7 @@
 //! Replies: the texts that lines are answered with.
 
 use crate::{Stop, push_escaped, push_shown};
-use std::alloc::{AllocError, Global};
+use std::alloc::Global;
 use std::fmt::{Debug, Display};
 
 /// The text that a line is answered with, written part by part. Where memory is refused for a part, the text is not whole, and
@@ -10,14 +10,6 @@ use std::fmt::{Debug, Display};
 pub struct Reply {
     text: String,
     is_whole: bool,
-}
-
-fn push_display<T: Display>(text: &mut String, part: &T) -> Result<(), AllocError> {
-    write!(text, "{part}")
-}
-
-fn push_debug<T: Debug>(text: &mut String, part: &T) -> Result<(), AllocError> {
-    write!(text, "{part:?}")
 }
 
 impl Reply {
@@ -38,14 +30,14 @@ impl Reply {
 
     /// Adds a value by its `Display`.
     pub fn show<T: Display>(&mut self, part: &T) {
-        if push_display(&mut self.text, part).is_err() {
+        if write!(self.text, "{part}").is_err() {
             self.is_whole = false;
         }
     }
 
     /// Adds a value by its `Debug`.
     pub fn debug<T: Debug>(&mut self, part: &T) {
-        if push_debug(&mut self.text, part).is_err() {
+        if write!(self.text, "{part:?}").is_err() {
             self.is_whole = false;
         }
     }

@@ -5,7 +5,7 @@ ghost use Rattle.ps_lock.specs.Words.{IsSeatOf};
 
 use crate::requests::Service;
 use crate::sinks::BusySink;
-use case_words::{Stop, cut, number_in, push_shown};
+use case_words::{Reply, Stop, cut, number_in};
 use ps_data::Items;
 use ps_doors::QuietBell;
 use ps_io::{MemoryClock, MemorySink, MemorySource};
@@ -43,34 +43,39 @@ fn ends_of(
     Ok((from, to, clock))
 }
 
-fn push_end(end: End, out: &mut String) -> Result<(), Stop> {
+fn push_end(end: End, out: &mut Reply) {
     match end {
-        End::Answered => out.push_str("answered")?,
-        End::Refused => out.push_str("refused")?,
-        End::Drained => out.push_str("drained")?,
-        End::Expired { moment } => write!(out, "expired {moment}")?,
-        End::PeerGone => out.push_str("gone")?,
-        End::CutRequest => out.push_str("cut")?,
-        End::TooMany { count } => write!(out, "too many {count}")?,
-        End::Memory => out.push_str("memory")?,
+        End::Answered => out.push("answered"),
+        End::Refused => out.push("refused"),
+        End::Drained => out.push("drained"),
+        End::Expired { moment } => {
+            out.push("expired ");
+            out.show(&moment);
+        }
+        End::PeerGone => out.push("gone"),
+        End::CutRequest => out.push("cut"),
+        End::TooMany { count } => {
+            out.push("too many ");
+            out.show(&count);
+        }
+        End::Memory => out.push("memory"),
     }
-    Ok(())
 }
 
-fn push_outcome(outcome: &Outcome, out: &mut String) -> Result<(), Stop> {
-    write!(out, "{} ", outcome.status)?;
-    push_end(outcome.end, out)?;
+fn push_outcome(outcome: &Outcome, out: &mut Reply) {
+    out.show(&outcome.status);
+    out.push(" ");
+    push_end(outcome.end, out);
     'served: for item in outcome.served.as_slice() {
-        write!(
-            out,
-            " {}:{}:{}",
-            item.place, item.position.0, item.last_op.0
-        )?;
-        if item.completed {
-            out.push_str("+")?;
-        }
+        out.push(" ");
+        out.show(&item.place);
+        out.push(":");
+        out.show(&item.position.0);
+        out.push(":");
+        out.show(&item.last_op.0);
+        out.push(if item.completed { "+" } else { "" });
     }
-    Ok(out.push_str(" ")?)
+    out.push(" ");
 }
 
 /// What is said of the bytes that were written.
@@ -92,18 +97,13 @@ fn line_feeds(bytes: &[u8]) -> u64 {
     count
 }
 
-fn push_answer(
-    outcome: &Outcome,
-    bytes: &[u8],
-    shown: Shown,
-    out: &mut String,
-) -> Result<(), Stop> {
-    push_outcome(outcome, out)?;
+fn push_answer(outcome: &Outcome, bytes: &[u8], shown: Shown, out: &mut Reply) {
+    push_outcome(outcome, out);
     match shown {
-        Shown::Bytes => push_shown(bytes, out)?,
-        Shown::Lines => write!(out, "{}", line_feeds(bytes))?,
+        Shown::Bytes => out.spell(bytes),
+        Shown::Lines => out.show(&line_feeds(bytes)),
     }
-    Ok(out.push_str("\n")?)
+    out.push("\n");
 }
 
 /// Answers a request, and says what came of it. Behind the writes of the answer another seat changes the store.
@@ -115,7 +115,7 @@ pub fn ask<R: Wait>(
     service: &Service,
     rest: &str,
     shown: Shown,
-    out: &mut String,
+    out: &mut Reply,
 ) -> (Seat<SharedStore>, Result<(), Stop>)
     requires { IsSeatOf lock.now seat }
     ensures { IsSeatOf lock.now result.0 }
@@ -142,7 +142,10 @@ pub fn ask<R: Wait>(
         &mut bell,
     );
     match to.sink() {
-        Ok(to) => (seat, push_answer(&outcome, to.bytes(), shown, out)),
+        Ok(to) => {
+            push_answer(&outcome, to.bytes(), shown, out);
+            (seat, Ok(()))
+        }
         Err(stop) => (seat, Err(stop)),
     }
 }
@@ -204,9 +207,11 @@ fn is_cut<R: Wait>(
     (seat, Ok(is_cut))
 }
 
-fn push_cuts(cuts: u64, others: u64, out: &mut String) -> Result<(), Stop> {
-    write!(out, "{cuts} cut, {others} not")?;
-    Ok(out.push_str("\n")?)
+fn push_cuts(cuts: u64, others: u64, out: &mut Reply) {
+    out.show(&cuts);
+    out.push(" cut, ");
+    out.show(&others);
+    out.push(" not\n");
 }
 
 // The request, broken off at each of its places: how often it is cut, and how often not.
@@ -218,7 +223,7 @@ fn ask_each<R: Wait>(
     service: &Service,
     way: Break,
     moment: u64,
-    out: &mut String,
+    out: &mut Reply,
 ) -> (Seat<SharedStore>, Result<(), Stop>)
     requires { IsSeatOf lock.now seat }
     ensures { IsSeatOf lock.now result.0 }
@@ -246,7 +251,8 @@ fn ask_each<R: Wait>(
             Err(stop) => return (here, Err(stop)),
         }
     }
-    (here, push_cuts(cuts, others, out))
+    push_cuts(cuts, others, out);
+    (here, Ok(()))
 }
 
 /// Breaks the request off at each of its places, and says how often it is cut with nothing written, and how often not.
@@ -258,7 +264,7 @@ pub fn ask_broken<R: Wait>(
     service: &Service,
     way: Break,
     moment: &str,
-    out: &mut String,
+    out: &mut Reply,
 ) -> (Seat<SharedStore>, Result<(), Stop>)
     requires { IsSeatOf lock.now seat }
     ensures { IsSeatOf lock.now result.0 }

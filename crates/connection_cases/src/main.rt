@@ -25,7 +25,7 @@ mod sinks;
 mod stores;
 
 use asking::{Break, Shown, ask, ask_broken};
-use case_words::{Stop, cut};
+use case_words::{Reply, Stop, cut};
 use ps_lock::{Seat, StoreLock};
 use ps_workers::SharedStore;
 use requests::{Service, new_service, take_word};
@@ -42,7 +42,7 @@ fn answer<R: Wait>(
     service: &mut Service,
     rest: &str,
     shown: Shown,
-    out: &mut String,
+    out: &mut Reply,
 ) -> (Seat<SharedStore>, Result<(), Stop>)
     requires { IsSeatOf lock.now seat }
     ensures { IsSeatOf lock.now result.0 }
@@ -60,7 +60,7 @@ fn take_line<R: Wait>(
     seat: Seat<SharedStore>,
     service: &mut Service,
     line: &str,
-    out: &mut String,
+    out: &mut Reply,
 ) -> (Seat<SharedStore>, Result<(), Stop>)
     requires { IsSeatOf lock.now seat }
     ensures { IsSeatOf lock.now result.0 }
@@ -68,8 +68,9 @@ fn take_line<R: Wait>(
     let (word, rest) = cut(line);
     match word {
         "#" => {
-            let said = requests::push_line(line, out);
-            (seat, said)
+            out.push(line);
+            out.push("\n");
+            (seat, Ok(()))
         }
         "ask" => answer(rt, alloc, lock, seat, service, rest, Shown::Bytes, out),
         "count" => answer(rt, alloc, lock, seat, service, rest, Shown::Lines, out),
@@ -80,6 +81,13 @@ fn take_line<R: Wait>(
         }
         _ => (seat, take_word(alloc, service, word, rest)),
     }
+}
+
+// Prints what a line has made, if it was answered.
+fn print_reply(rt: &HostRuntime, done: Result<(), Stop>, out: &Reply) -> Result<(), Stop> {
+    done?;
+    let text = out.text()?;
+    Ok(print!(rt; "{text}")?)
 }
 
 fn answer_lines<R: Wait>(
@@ -103,11 +111,10 @@ fn answer_lines<R: Wait>(
             here = next;
             continue;
         }
-        let mut out = String::new(alloc);
+        let mut out = Reply::new(alloc);
         let (next, done) = take_line(waits, alloc, &lock, here, service, line.as_str(), &mut out);
         here = next;
-        done?;
-        print!(rt; "{}", out.as_str())?;
+        print_reply(rt, done, &out)?;
     }
     Ok(())
 }

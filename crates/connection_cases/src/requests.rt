@@ -36,12 +36,6 @@ pub fn new_service(alloc: Global) -> Result<Service, Stop> {
     })
 }
 
-/// A line as it stands.
-pub fn push_line(line: &str, out: &mut String) -> Result<(), Stop> {
-    out.push_str(line)?;
-    Ok(out.push_str("\n")?)
-}
-
 // Adds an Authorization field.
 fn push_token(alloc: Global, keys: &Keys, rest: &str, request: &mut Vec<u8>) -> Result<(), Stop> {
     let (word, rest) = cut(rest);
