@@ -17,7 +17,7 @@ mod failing;
 mod running;
 mod settings;
 
-use case_words::{Stop, cut};
+use case_words::{Reply, Stop, cut};
 use running::{write_each, write_run, write_store};
 use settings::{Setting, new_setting, take_word};
 use std::alloc::Global;
@@ -30,13 +30,13 @@ fn take_line<R: Wait>(
     alloc: Global,
     setting: &mut Setting,
     line: &str,
-    out: &mut String,
+    out: &mut Reply,
 ) -> Result<(), Stop> {
     let (word, rest) = cut(line);
     match word {
         "#" => {
-            out.push_str(line)?;
-            out.push_str("\n")?;
+            out.push(line);
+            out.push("\n");
             Ok(())
         }
         "sync" => {
@@ -60,9 +60,10 @@ fn answer_lines<R: Wait>(rt: &HostRuntime, waits: &R) -> Result<(), Stop> {
     let mut setting = new_setting(alloc, RandomState::new(rt)?);
     'lines: for line in rt.lines(alloc) {
         let line = line?;
-        let mut out = String::new(alloc);
+        let mut out = Reply::new(alloc);
         take_line(waits, alloc, &mut setting, line.as_str(), &mut out)?;
-        print!(rt; "{}", out.as_str())?;
+        let text = out.text()?;
+        print!(rt; "{text}")?;
     }
     Ok(())
 }

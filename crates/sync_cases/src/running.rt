@@ -2,7 +2,7 @@
 
 use crate::failing::{Failing, Kind, kind_in};
 use crate::settings::Setting;
-use case_words::{Stop, push_escaped};
+use case_words::{Reply, Stop};
 use ps_client_log::{Hashing, Keeper, MemoryKeeper};
 use ps_data::Items;
 use ps_doors::{Link, MemoryLink};
@@ -84,14 +84,16 @@ fn run<R: Wait>(
     Ok((ran, keeper))
 }
 
-fn push_line(word: &str, bytes: &[u8], out: &mut String) -> Result<(), Stop> {
-    out.push_str(word)?;
-    push_escaped(out, str::from_utf8(bytes)?)?;
-    Ok(out.push_str("\n")?)
+fn push_line(word: &str, bytes: &[u8], out: &mut Reply) -> Result<(), Stop> {
+    out.push(word);
+    out.escape(str::from_utf8(bytes)?);
+    out.push("\n");
+    Ok(())
 }
 
-fn push_ran(ran: &Ran, out: &mut String) -> Result<(), Stop> {
-    write!(out, "{}\n", ran.status)?;
+fn push_ran(ran: &Ran, out: &mut Reply) -> Result<(), Stop> {
+    out.show(&ran.status);
+    out.push("\n");
     if !ran.out.bytes().is_empty() {
         push_line("out ", ran.out.bytes(), out)?;
     }
@@ -110,7 +112,7 @@ pub fn write_run<R: Wait>(
     alloc: Global,
     setting: &mut Setting,
     hashing: Option<Hashing>,
-    out: &mut String,
+    out: &mut Reply,
 ) -> Result<(), Stop> {
     let kind = Kind::File;
     let keeper = setting.take_keeper(alloc);
@@ -139,25 +141,35 @@ pub fn write_each<R: Wait>(
     alloc: Global,
     setting: &Setting,
     words: &str,
-    out: &mut String,
+    out: &mut Reply,
 ) -> Result<(), Stop> {
     let kind = kind_in(words)?;
-    write!(out, "each {words}:")?;
+    out.push("each ");
+    out.push(words);
+    out.push(":");
     'calls: for call in 1..MANY {
         let ran = run_failing(waits, alloc, setting, Failing { kind, call })?;
-        write!(out, " {}/{}", ran.status, ran.out.bytes().len())?;
+        out.push(" ");
+        out.show(&ran.status);
+        out.push("/");
+        out.show(&ran.out.bytes().len());
         if !ran.has_failed {
             break;
         }
     }
-    Ok(out.push_str("\n")?)
+    out.push("\n");
+    Ok(())
 }
 
 /// Says which file the words name for what the client keeps.
-pub fn write_store(alloc: Global, setting: &Setting, out: &mut String) -> Result<(), Stop> {
+pub fn write_store(alloc: Global, setting: &Setting, out: &mut Reply) -> Result<(), Stop> {
     match store_of(alloc, setting.words())? {
-        Some(name) => write!(out, "store {}\n", name.as_str())?,
-        None => out.push_str("no store\n")?,
+        Some(name) => {
+            out.push("store ");
+            out.push(name.as_str());
+            out.push("\n");
+        }
+        None => out.push("no store\n"),
     }
     Ok(())
 }
