@@ -5,7 +5,7 @@ ghost use Rattle.ps_bucket_log.specs.Ops.{newest};
 
 use crate::asking::{Asked, ask_all};
 use crate::chance::Chance;
-use case_words::{Stop, cut, number_in};
+use case_words::{Reply, Stop, cut, number_in};
 use ps_bucket_log::{BucketLog, Log, Op};
 use ps_compact::compact;
 use ps_data::OpId;
@@ -99,8 +99,24 @@ fn newest_of(alloc: Global, logs: &Logs) -> Result<u64, Stop> {
     Ok(last_id(logs.plain.ops(alloc)?.as_slice()))
 }
 
+// Makes a call on both logs, and asks both.
+fn call_and_ask(
+    alloc: Global,
+    logs: &mut Logs,
+    chance: &mut Chance,
+    most: u64,
+    asked: &mut Asked,
+) -> Result<(), Stop> {
+    let call = next_call(chance, most, newest_of(alloc, logs)?);
+    let mut same_chance = *chance;
+    call_one(alloc, &mut logs.plain, call, chance)?;
+    call_one(alloc, &mut logs.segments, call, &mut same_chance)?;
+    let newest = newest_of(alloc, logs)?;
+    ask_all(alloc, logs, newest, chance, asked)
+}
+
 /// Makes so many calls, and asks both logs behind each.
-pub fn write_calls(alloc: Global, words: &str, out: &mut String) -> Result<(), Stop> {
+pub fn write_calls(alloc: Global, words: &str, out: &mut Reply) -> Result<(), Stop> {
     let (calls, words) = cut(words);
     let (most, seed) = cut(words);
     let most = number_in(most)?;
@@ -116,19 +132,17 @@ pub fn write_calls(alloc: Global, words: &str, out: &mut String) -> Result<(), S
         different: 0,
     };
     'calls: for _ in 0..number_in(calls)? {
-        let newest = newest_of(alloc, &logs)?;
-        let call = next_call(&mut chance, most, newest);
-        let mut same_chance = chance;
-        call_one(alloc, &mut logs.plain, call, &mut chance)?;
-        call_one(alloc, &mut logs.segments, call, &mut same_chance)?;
-        let newest = newest_of(alloc, &logs)?;
-        ask_all(alloc, &logs, newest, &mut chance, &mut asked)?;
+        call_and_ask(alloc, &mut logs, &mut chance, most, &mut asked)?;
     }
-    let newest = newest_of(alloc, &logs)?;
-    let Asked { answers, different } = asked;
-    let (plain, segments) = (logs.plain.len(), logs.segments.len());
-    Ok(write!(
-        out,
-        "newest {newest} operations {plain} {segments} compared {answers} different {different}"
-    )?)
+    out.push("newest ");
+    out.show(&newest_of(alloc, &logs)?);
+    out.push(" operations ");
+    out.show(&logs.plain.len());
+    out.push(" ");
+    out.show(&logs.segments.len());
+    out.push(" compared ");
+    out.show(&asked.answers);
+    out.push(" different ");
+    out.show(&asked.different);
+    Ok(())
 }

@@ -15,11 +15,11 @@ mod chance;
 mod timed;
 mod worked;
 
-use case_words::{Stop, cut};
+use case_words::{Reply, Stop, cut};
 use std::alloc::Global;
 use std::io;
 
-fn answer(alloc: Global, line: &str, out: &mut String) -> Result<(), Stop> {
+fn answer(alloc: Global, line: &str, out: &mut Reply) -> Result<(), Stop> {
     let (word, rest) = cut(line);
     match word {
         "chance" => calling::write_calls(alloc, rest, out),
@@ -32,9 +32,10 @@ fn answer(alloc: Global, line: &str, out: &mut String) -> Result<(), Stop> {
 fn answer_all(rt: HostRuntime) -> Result<(), Stop> {
     let cases = io::read_to_string(rt.alloc(), rt.reader())?;
     'lines: for line in cases.as_str().lines() {
-        let mut out = String::new(rt.alloc());
+        let mut out = Reply::new(rt.alloc());
         answer(rt.alloc(), line, &mut out)?;
-        println!(rt; "{}", out.as_str())?;
+        let text = out.text()?;
+        println!(rt; "{text}")?;
     }
     Ok(())
 }

@@ -3,7 +3,7 @@
 ghost use Rattle.std.specs.Prelude.{◌≡◌, false, IfOk};
 ghost use Rattle.ps_bucket_log.specs.Ops.{id_of, is_clear, newest};
 
-use case_words::{Stop, cut, number_in};
+use case_words::{Reply, Stop, cut, number_in};
 use ps_bucket_log::uncounted::{read, sum_upto};
 use ps_bucket_log::{BucketLog, Key, Log, Op};
 use ps_checksum::Sum;
@@ -100,7 +100,7 @@ fn call_of(word: &str) -> Result<Call, Stop> {
 }
 
 /// Writes how many operations the log has, and what its answers come to.
-pub fn write_asked(alloc: Global, words: &str, out: &mut String) -> Result<(), Stop> {
+pub fn write_asked(alloc: Global, words: &str, out: &mut Reply) -> Result<(), Stop> {
     let (kind, words) = cut(words);
     let (length, words) = cut(words);
     let (call, times) = cut(words);
@@ -110,5 +110,9 @@ pub fn write_asked(alloc: Global, words: &str, out: &mut String) -> Result<(), S
         "segments" => figures_of(alloc, &mut SegmentLog::new(alloc), length, call, times)?,
         _ => return Err("no such log".into()),
     };
-    Ok(write!(out, "operations {length} answers {all}")?)
+    out.push("operations ");
+    out.show(&length);
+    out.push(" answers ");
+    out.show(&all);
+    Ok(())
 }

@@ -6,7 +6,7 @@ ghost use Rattle.ps_bucket_log.specs.Ops.{newest, sum_of, upto as up_to};
 
 use crate::calling::append_some;
 use crate::chance::Chance;
-use case_words::{Stop, cut, number_in};
+use case_words::{Reply, Stop, cut, number_in};
 use ps_bucket_log::{Batch, Log, Steps};
 use ps_checksum::Sum;
 use ps_data::{Memory, OpId};
@@ -60,7 +60,7 @@ fn write_answers<L: Ledger>(
     upto: u64,
     count: u64,
     blank: Blank,
-    out: &mut String,
+    out: &mut Reply,
 ) -> Result<(), Stop>
     requires thousand { length log.now.ops ≡ 1000 }
     requires name { blank.name ≡ L.name }
@@ -73,16 +73,19 @@ fn write_answers<L: Ledger>(
     let newest = newest_of_thousand(log, OpId(upto), &mut steps);
     let after = OpId(upto.saturating_sub(count));
     let batch = read_of_thousand(alloc, log, after, OpId(upto), &mut steps)?;
-    let read = batch.ops.len();
-    Ok(write!(
-        out,
-        "sum {} count {number} newest {} read {read}",
-        sum.0, newest.0
-    )?)
+    out.push("sum ");
+    out.show(&sum.0);
+    out.push(" count ");
+    out.show(&number);
+    out.push(" newest ");
+    out.show(&newest.0);
+    out.push(" read ");
+    out.show(&batch.ops.len());
+    Ok(())
 }
 
 /// Makes the log, and writes what it answers.
-pub fn write_thousand(alloc: Global, words: &str, out: &mut String) -> Result<(), Stop> {
+pub fn write_thousand(alloc: Global, words: &str, out: &mut Reply) -> Result<(), Stop> {
     let (upto, count) = cut(words);
     let mut log = SegmentLog::new(alloc);
     let mut chance = Chance { state: 1 };
