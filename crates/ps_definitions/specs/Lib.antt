@@ -4,6 +4,7 @@ pub mod Checks
 pub mod Laws
 pub mod Meeting
 pub mod Names
+pub mod Priorities
 pub mod RuleSets
 pub mod Tables
 pub mod Vectors

@@ -1,5 +1,5 @@
 -- What rules are, and what holds of them.
-use Rattle.std.specs.Prelude.{◌≡◌, ℕ, Bool, true, false, ◌&&◌, nat_lt, List, [], ◌∷◌, map}
+use Rattle.std.specs.Prelude.{◌≡◌, ◌≤◌, ℕ, Bool, true, false, ◌&&◌, nat_lt, List, [], ◌∷◌, map}
 use Rattle.std.specs.List.{AllByRecursion, flat_map}
 use Rattle.ps_queries.specs.declared.queries.ParameterQuery.{ParameterQuery}
 use Rattle.ps_queries.specs.declared.subjects.Subject.TheVariants as subjects
@@ -34,6 +34,7 @@ pub record IsSoundQuery (names : List (List ℕ)) (planned : Planned) : Type 0 w
 
 pub record IsSound (definition : Definition) : Type 0 where
   pub name : is_definition_name definition.name ≡ true
+  pub urgent : definition.priority ≤ 3
   pub names : definition.names ≡ names_of definition.parameters
   pub parameters : AllByRecursion (IsSoundParameter definition.names) definition.parameters
   pub queries : AllByRecursion (IsSoundQuery definition.names) definition.queries

@@ -37,6 +37,7 @@ impl Copied for Definition {
     fn copied(&self, alloc: Global) -> Result<Definition, Memory> {
         Ok(Definition {
             name: self.name.copy(alloc)?,
+            priority: self.priority,
             names: copy_all(alloc, self.names.as_slice())?,
             parameters: copy_all(alloc, self.parameters.as_slice())?,
             queries: copy_all(alloc, self.queries.as_slice())?,

@@ -1,6 +1,7 @@
-//! The laws of branches and of buckets' names. Each is the contract of a function that does nothing.
+//! The laws of branches, of buckets' names and of priorities. Each is the contract of a function that does nothing.
 
 ghost use Rattle.ps_definitions.specs.Laws.{EitherSide, BothSides, LeafAlone, HoldsWhereMet, SameTest, NullIsNotAllowed, NamesDiffer};
+ghost use Rattle.ps_definitions.specs.Priorities.{BucketsHavePriorities, SomeAreRules};
 
 use ps_values::equal_where_both_are_present;
 
@@ -29,4 +30,11 @@ pub fn null_is_not_allowed()
 /// A law: different pairs of a definition's name and a vector give different names of buckets.
 pub fn names_are_distinct()
     ensures { NamesDiffer }
+{}
+
+/// A law: each bucket of a definition has the definition's priority, and the definitions of rules that have at most a priority
+/// are rules.
+pub fn buckets_have_priorities()
+    ensures buckets { BucketsHavePriorities }
+    ensures rules { SomeAreRules }
 {}

@@ -8,6 +8,7 @@ mod definitions;
 mod laws;
 mod matches;
 mod naming;
+mod priorities;
 mod queries;
 mod rule_sets;
 mod spreading;
@@ -17,11 +18,12 @@ mod warnings;
 pub use branches::Branch;
 pub use definitions::Definition;
 pub use laws::{
-    conditions_hold_where_a_branch_is_met, names_are_distinct, null_is_not_allowed,
-    spread_as_written,
+    buckets_have_priorities, conditions_hold_where_a_branch_is_met, names_are_distinct,
+    null_is_not_allowed, spread_as_written,
 };
 pub use matches::Match;
 pub use naming::{bucket_name, have_64_bits};
+pub use priorities::USUAL_PRIORITY;
 pub use queries::Planned;
 pub use rule_sets::Rules;
 pub use spreading::{MOST_BRANCHES, branches_of, count_branches};

@@ -1,8 +1,10 @@
-ghost use Rattle.std.specs.Prelude.{◌≡◌, ℕ, List, IfOk};
+ghost use Rattle.std.specs.Prelude.{◌≡◌, ◌≤◌, ℕ, List, IfOk};
 ghost use Rattle.std.specs.List.{AllByRecursion};
 ghost use Rattle.ps_definitions.specs.RuleSets.{AreRules};
+ghost use Rattle.ps_definitions.specs.Priorities.{priority_of, rules_upto};
 ghost use Rattle.ps_definitions.specs.Tables.{places_of, is_read, HasQuery, IsAt};
 
+use crate::priorities::{definitions_upto, priority_of};
 use crate::tables::Tables;
 use crate::{Definition, Planned, QueryPlace, Warning};
 use ps_data::{Items, Memory, Text, copy_all};
@@ -93,6 +95,25 @@ impl Rules {
         ensures { result ≡ is_read self.now.definitions table.now }
     {
         self.tables.read.contains(table)
+    }
+
+    /// The priority of a bucket, from 0, the most urgent, to 3: that of the definition whose name stands before its bracket,
+    /// and 3 where there is none. It looks at each definition up to that one.
+    pub fn priority_of(&self, bucket: &Text) -> u8
+        ensures value { result ≡ priority_of self.now.definitions bucket.now }
+        ensures range { result ≤ 3 }
+    {
+        priority_of(self.definitions.as_slice(), bucket)
+    }
+
+    /// The rules with the definitions of at most a priority, whose data queries keep their numbers. There may be none left;
+    /// the warnings stay.
+    pub fn upto(&self, alloc: Global, priority: u8) -> Result<Rules, Memory>
+        ensures { IfOk result (λ some. some ≡ rules_upto priority self.now) }
+    {
+        let definitions = definitions_upto(alloc, self.definitions.as_slice(), priority)?;
+        let warnings = copy_all(alloc, self.warnings.as_slice())?;
+        Rules::made(alloc, definitions, warnings)
     }
 
     /// Equal rules.
