@@ -1,5 +1,5 @@
 -- What is read as rules is written as rules.
-use Rattle.std.proofs.Common.{◌≡◌, ◌<◌, ℕ, ◌+◌, Bool, true, false, List, [], ◌∷◌, ◌++◌, length, refl, sym, ap, subst, ◌∙◌, map, append_assoc, arith, Result, Ok, Err, bytes_eq}
+use Rattle.std.proofs.Common.{◌≡◌, ◌<◌, ℕ, ◌+◌, Bool, true, false, List, [], ◌∷◌, ◌++◌, length, refl, sym, ap, subst, ◌∙◌, map, append_assoc, arith, Option, Some, None, Result, Ok, Err, bytes_eq}
 use Rattle.std.specs.Prelude.{not, codes, ◌==◌, ◌||◌, if◌then◌else◌, IfOk}
 use Rattle.std.proofs.lemmas.Slice.Eq.{bytes_eq-Decides}
 use Rattle.ps_queries.specs.declared.queries.ParameterQuery.{ParameterQuery}
@@ -25,12 +25,12 @@ use Rattle.ps_rules.specs.declared.faults.RulesFault.TheVariants as faults
 use Rattle.ps_rules.specs.Faults.{◌>>=◌, refuse, sql, Reads}
 use Rattle.ps_definitions.specs.Names.{is_in, has_repeated, same_names, output_names}
 use Rattle.ps_definitions.specs.Branches.{branches_of}
-use Rattle.ps_rules.specs.Shapes.{Layer, layer_pairs, pairs_of, layer_written, written_of, all_written, layer_queries, queries_of, is_empty_scalar, data_of, part_of, parts_of, no_parts, has_name, shape_fault, pair_fault, draft_of, draft_with, draft_names, drafts_from, definitions_of, sections_of, drafts_of}
+use Rattle.ps_rules.specs.Shapes.{Layer, layer_pairs, pairs_of, layer_written, written_of, all_written, layer_queries, queries_of, is_empty_scalar, data_of, digit_of, priority_or, layer_priority, priority_of, part_of, parts_of, no_parts, has_name, shape_fault, pair_fault, draft_of, draft_with, draft_names, drafts_from, definitions_of, sections_of, drafts_of}
 use Rattle.ps_definitions.specs.Checks.{names_of, has_no_id, has_unknown, has_many_branches, is_matched}
 use Rattle.ps_rules.specs.Checks.{is_mixed, client_warning, known_from, known_with, all_known, planned_from, planned_of, all_planned, data_warning, checked_of}
 use Rattle.ps_rules.specs.Reading.{with_checked, rules_from, rules_of, no_rules}
 use Rattle.ps_definitions.specs.RuleSets.{RuleSet}
-use Rattle.ps_rules.specs.Grammar.{IsScalar, AreScalars, no_scalars, next_scalar, AreQueries, single, several, AreData, no_data, some_data, Give, given, data_given, parameters_given, nothing_given, IsDraft, Drafted, no_drafts, next_draft, IsDocumentOf, IsParameterOf, AreParametersOf, no_parameters, next_parameter, IsQueryOf, AreQueriesOf, no_queries, next_query, IsDefinition, AreDefinitions, no_definitions, next_definition, client_warnings, warnings_of, IsRules}
+use Rattle.ps_rules.specs.Grammar.{IsScalar, AreScalars, no_scalars, next_scalar, AreQueries, single, several, AreData, no_data, some_data, IsDigit, digit_0, digit_1, digit_2, digit_3, SaysPriority, Give, given, data_given, parameters_given, nothing_given, priority_given, IsDraft, Drafted, no_drafts, next_draft, IsDocumentOf, IsParameterOf, AreParametersOf, no_parameters, next_parameter, IsQueryOf, AreQueriesOf, no_queries, next_query, IsDefinition, AreDefinitions, no_definitions, next_definition, client_warnings, warnings_of, IsRules}
 use Rattle.ps_rules.proofs.Steps.{past, both_ok, same_ok}
 use Rattle.ps_rules.proofs.Kept.{append_nil, was_read, same_self, not_false}
 use Rattle.ps_rules.proofs.Drafted.{definitions_are}
@@ -80,21 +80,74 @@ data_found node all h = by_test (is_empty_scalar node) refl h where
 
 -- ---- definitions
 
+-- a digit that is read
+digit_found : (text : List ℕ) (priority : ℕ) → digit_of text ≡ Some priority → IsDigit text priority
+digit_found text priority h = by_0 (bytes_eq text (codes "0")) refl h where
+  is : (digit : List ℕ) (n : ℕ) → IsDigit digit n → bytes_eq text digit ≡ true → ◌≡◌ {A = Option ℕ} (Some n) (Some priority) → IsDigit text priority
+  is digit n d same e =
+      let number : n ≡ priority = cc in
+      subst (λ (k : ℕ). IsDigit text k) number (subst (λ (t : List ℕ). IsDigit t n) (sym (same_name text digit same)) d)
+
+  by_3 : (b : Bool) → bytes_eq text (codes "3") ≡ b → (if b then Some 3 else None) ≡ Some priority → IsDigit text priority
+  by_3 true same e = is (codes "3") 3 digit_3 same e
+  by_3 false other e = absurd (cc)
+
+  by_2 : (b : Bool) → bytes_eq text (codes "2") ≡ b → (if b then Some 2 else (if bytes_eq text (codes "3") then Some 3 else None)) ≡ Some priority → IsDigit text priority
+  by_2 true same e = is (codes "2") 2 digit_2 same e
+  by_2 false other e = by_3 (bytes_eq text (codes "3")) refl e
+
+  by_1 : (b : Bool) → bytes_eq text (codes "1") ≡ b → (if b then Some 1 else (if bytes_eq text (codes "2") then Some 2 else (if bytes_eq text (codes "3") then Some 3 else None))) ≡ Some priority → IsDigit text priority
+  by_1 true same e = is (codes "1") 1 digit_1 same e
+  by_1 false other e = by_2 (bytes_eq text (codes "2")) refl e
+
+  by_0 : (b : Bool) → bytes_eq text (codes "0") ≡ b
+      → (if b then Some 0 else (if bytes_eq text (codes "1") then Some 1 else (if bytes_eq text (codes "2") then Some 2 else (if bytes_eq text (codes "3") then Some 3 else None)))) ≡ Some priority → IsDigit text priority
+  by_0 true same e = is (codes "0") 0 digit_0 same e
+  by_0 false other e = by_1 (bytes_eq text (codes "1")) refl e
+
+priority_found : (node : Node) (priority : ℕ) → priority_of node ≡ Ok priority → SaysPriority node priority
+priority_found node priority h = by_layer (out-Node node) refl h where
+  by_digit : (text : List ℕ) (line column : ℕ) (o : Option ℕ) → out-Node node ≡ layers.Scalar text line column true → digit_of text ≡ o → priority_or line column o ≡ Ok priority → SaysPriority node priority
+  by_digit text line column (Some n) is said e =
+      let number : n ≡ priority = same_ok n priority e in
+      record { text = text; line = line; column = column; is = is; digit = digit_found text priority (said ∙ ap (λ (k : ℕ). Some k) number) }
+  by_digit text line column None is said e = absurd (cc)
+
+  by_layer : (layer : Layer) → out-Node node ≡ layer → layer_priority layer ≡ Ok priority → SaysPriority node priority
+  by_layer (layers.Scalar text line column true) is e = by_digit text line column (digit_of text) is refl e
+  by_layer (layers.Scalar text line column false) is e = absurd (cc)
+  by_layer (layers.Map pairs line column) is e = absurd (cc)
+  by_layer (layers.List items line column) is e = absurd (cc)
+
 part_found : (parts : Parts) (pair : Pair) (pairs : List Pair) (more all : Parts) → part_of parts pair ≡ Ok more → Give more pairs all → Give parts (pair ∷ pairs) all
 unfolding part_of
 part_found parts pair pairs more all h rest = by_data (bytes_eq pair.name (codes "data")) refl h where
+  prioritizes : Result Parts RulesFault
+  prioritizes = priority_of pair.node >>= λ priority. Ok (record parts { priority = priority })
+
   ignores : Result Parts RulesFault
   ignores = written_of pair.node >>= λ ignored. Ok parts
 
-  by_ignored : (b : Bool) → bytes_eq pair.name (codes "accept_potentially_dangerous_queries") ≡ b → (if b then ignores else Err (pair_fault pair)) ≡ Ok more → Give parts (pair ∷ pairs) all
+  asks : Result Parts RulesFault
+  asks = queries_of pair.node >>= λ queries. Ok (record parts { parameters = queries })
+
+  by_priority : (b : Bool) → bytes_eq pair.name (codes "priority") ≡ b → (if b then prioritizes else Err (pair_fault pair)) ≡ Ok more → Give parts (pair ∷ pairs) all
+  by_priority true named h =
+      let a = both_ok (priority_of pair.node) (λ (priority : ℕ). Ok (record parts { priority = priority })) more h in
+      priority_given parts pair pairs a.0 all (same_name pair.name (codes "priority") named) (priority_found pair.node a.0 a.1)
+      (subst (λ (p : Parts). Give p pairs all) (sym (same_ok (record parts { priority = a.0 }) more a.2)) rest)
+  by_priority false other h = absurd (cc)
+
+  by_ignored : (b : Bool) → bytes_eq pair.name (codes "accept_potentially_dangerous_queries") ≡ b
+      → (if b then ignores else (if bytes_eq pair.name (codes "priority") then prioritizes else Err (pair_fault pair))) ≡ Ok more → Give parts (pair ∷ pairs) all
   by_ignored true named h =
       let a = both_ok (written_of pair.node) (λ (ignored : Written). Ok parts) more h in
       nothing_given parts pair pairs a.0 all (same_name pair.name (codes "accept_potentially_dangerous_queries") named) (scalar_found pair.node a.0 a.1)
       (subst (λ (p : Parts). Give p pairs all) (sym (same_ok parts more a.2)) rest)
-  by_ignored false other h = absurd (cc)
+  by_ignored false other h = by_priority (bytes_eq pair.name (codes "priority")) refl h
 
   by_parameters : (b : Bool) → bytes_eq pair.name (codes "parameters") ≡ b
-      → (if b then (queries_of pair.node >>= λ queries. Ok (record parts { parameters = queries })) else (if bytes_eq pair.name (codes "accept_potentially_dangerous_queries") then ignores else Err (pair_fault pair))) ≡ Ok more
+      → (if b then asks else (if bytes_eq pair.name (codes "accept_potentially_dangerous_queries") then ignores else (if bytes_eq pair.name (codes "priority") then prioritizes else Err (pair_fault pair)))) ≡ Ok more
       → Give parts (pair ∷ pairs) all
   by_parameters true named h =
       let a = both_ok (queries_of pair.node) (λ (queries : List Written). Ok (record parts { parameters = queries })) more h in
@@ -103,7 +156,7 @@ part_found parts pair pairs more all h rest = by_data (bytes_eq pair.name (codes
   by_parameters false other h = by_ignored (bytes_eq pair.name (codes "accept_potentially_dangerous_queries")) refl h
 
   by_data : (b : Bool) → bytes_eq pair.name (codes "data") ≡ b
-      → (if b then (data_of pair.node >>= λ queries. Ok (record parts { queries = queries })) else (if bytes_eq pair.name (codes "parameters") then (queries_of pair.node >>= λ queries. Ok (record parts { parameters = queries })) else (if bytes_eq pair.name (codes "accept_potentially_dangerous_queries") then ignores else Err (pair_fault pair)))) ≡ Ok more
+      → (if b then (data_of pair.node >>= λ queries. Ok (record parts { queries = queries })) else (if bytes_eq pair.name (codes "parameters") then asks else (if bytes_eq pair.name (codes "accept_potentially_dangerous_queries") then ignores else (if bytes_eq pair.name (codes "priority") then prioritizes else Err (pair_fault pair))))) ≡ Ok more
       → Give parts (pair ∷ pairs) all
   by_data true named h =
       let a = both_ok (data_of pair.node) (λ (queries : List Written). Ok (record parts { queries = queries })) more h in
@@ -132,7 +185,7 @@ map_found node pairs h = by_layer (out-Node node) refl h where
 draft_found : (pair : Pair) (draft : Draft) → draft_of pair ≡ Ok draft → IsDraft pair draft
 unfolding draft_of
 draft_found pair draft h =
-    let made : Parts → Draft = λ parts. record { name = pair.name; line = pair.line; column = pair.column; parameters = parts.parameters; queries = parts.queries } in
+    let made : Parts → Draft = λ parts. record { name = pair.name; line = pair.line; column = pair.column; parameters = parts.parameters; queries = parts.queries; priority = parts.priority } in
     let a = both_ok (pairs_of pair.node) (λ pairs. refuse (not (has_name (codes "data") pairs)) (shape_fault pair.node) >>= λ has_data. parts_of no_parts pairs >>= λ (parts : Parts). Ok (made parts)) draft h in
     let b = past (not (has_name (codes "data") a.0)) (shape_fault pair.node) (λ has_data. parts_of no_parts a.0 >>= λ (parts : Parts). Ok (made parts)) draft a.2 in
     let c = both_ok (parts_of no_parts a.0) (λ (parts : Parts). Ok (made parts)) draft b.1 in
@@ -364,7 +417,7 @@ checked_found : (before : ℕ) (draft : Draft) (checked : Checked) → checked_o
 unfolding checked_of
 checked_found before draft checked h =
     let start : Known = record { queries = []; warnings = data_warning draft } in
-    let made : Known → List Planned → Checked = λ known planned. record { definition = record { name = draft.name; names = names_of known.queries; parameters = known.queries; queries = planned }; warnings = known.warnings } in
+    let made : Known → List Planned → Checked = λ known planned. record { definition = record { name = draft.name; priority = draft.priority; names = names_of known.queries; parameters = known.queries; queries = planned }; warnings = known.warnings } in
     let a = both_ok (all_known start draft.parameters) (λ (known : Known). all_planned (names_of known.queries) before [] draft.queries >>= λ (planned : List Planned). Ok (made known planned)) checked h in
     let known = a.0 in
     let b = both_ok (all_planned (names_of known.queries) before [] draft.queries) (λ (planned : List Planned). Ok (made known planned)) checked a.2 in
@@ -372,6 +425,7 @@ checked_found before draft checked h =
     let is : CheckedFound before draft (made known b.0) = record {
       is = record {
         name = refl;
+        priority = refl;
         names = refl;
         parameters = k.are;
         queries = all_planned_found (names_of known.queries) before draft.queries b.0 b.1;

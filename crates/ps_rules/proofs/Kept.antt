@@ -163,7 +163,7 @@ planned_all laws names before queries (written ∷ others) more h sound =
 
 record IsCheckedAs (before : ℕ) (draft : Draft) (definition : Definition) : Type 0 where
   name : definition.name ≡ draft.name
-  sound : is_definition_name draft.name ≡ true → IsSound definition
+  sound : is_definition_name draft.name ≡ true → draft.priority ≤ 3 → IsSound definition
   numbers : query_numbers definition.queries ≡ counted before draft.queries
 
 checked_step : SpeakAsTheyMay → (before : ℕ) (draft : Draft) (checked : Checked) → checked_of before draft ≡ Ok checked → IsCheckedAs before draft checked.definition
@@ -171,15 +171,15 @@ unfolding checked_of
 checked_step laws before draft checked h =
     let start : Known = record { queries = []; warnings = data_warning draft } in
     let a = both_ok (all_known start draft.parameters) (λ (known : Known). all_planned (names_of known.queries) before [] draft.queries >>= λ (planned : List Planned).
-    Ok (record { definition = record { name = draft.name; names = names_of known.queries; parameters = known.queries; queries = planned }; warnings = known.warnings })) checked h in
+    Ok (record { definition = record { name = draft.name; priority = draft.priority; names = names_of known.queries; parameters = known.queries; queries = planned }; warnings = known.warnings })) checked h in
     let known = a.0 in
     let b = both_ok (all_planned (names_of known.queries) before [] draft.queries) (λ (planned : List Planned).
-    Ok (record { definition = record { name = draft.name; names = names_of known.queries; parameters = known.queries; queries = planned }; warnings = known.warnings })) checked a.2 in
-    let made : Checked = record { definition = record { name = draft.name; names = names_of known.queries; parameters = known.queries; queries = b.0 }; warnings = known.warnings } in
+    Ok (record { definition = record { name = draft.name; priority = draft.priority; names = names_of known.queries; parameters = known.queries; queries = planned }; warnings = known.warnings })) checked a.2 in
+    let made : Checked = record { definition = record { name = draft.name; priority = draft.priority; names = names_of known.queries; parameters = known.queries; queries = b.0 }; warnings = known.warnings } in
     let queries = planned_all laws (names_of known.queries) before [] draft.queries b.0 b.1 tt in
     let is : IsCheckedAs before draft made.definition = record {
       name = refl;
-      sound = λ fits. record { name = fits; names = refl; parameters = known_all laws start draft.parameters known a.1 tt; queries = queries.0 };
+      sound = λ fits low. record { name = fits; urgent = low; names = refl; parameters = known_all laws start draft.parameters known a.1 tt; queries = queries.0 };
       numbers = queries.1;
     } in
     subst (λ (c : Checked). IsCheckedAs before draft c.definition) (same_ok made checked b.2) is
@@ -212,6 +212,7 @@ upto_rises before (suc n) = let e : nat_lt before (before + 1) ≡ true = grind 
 record KeptSoFar (before : ℕ) (rules : RuleSet) (rest : List Draft) : Type 0 where
   differ : has_repeated (names_in rules.definitions ++ draft_names rest) ≡ false
   fit : list_all is_definition_name (draft_names rest) ≡ true
+  urgent : AllByRecursion (λ (draft : Draft). draft.priority ≤ 3) rest
   sound : AllByRecursion IsSound rules.definitions
   numbers : numbers_of rules.definitions ≡ numbers_upto 0 before
 
@@ -232,7 +233,8 @@ kept_more before rules draft rest checked is kept =
     record {
       differ = ap has_repeated names ∙ kept.differ;
       fit = fits.1;
-      sound = each_more IsSound rules.definitions d kept.sound (is.sound fits.0);
+      urgent = kept.urgent.1;
+      sound = each_more IsSound rules.definitions d kept.sound (is.sound fits.0 kept.urgent.0);
       numbers = flat_map-append (λ (x : Definition). query_numbers x.queries) rules.definitions (d ∷ [])
           ∙ ap (λ ns. numbers_of rules.definitions ++ ns) (append_nil (query_numbers d.queries) ∙ is.numbers ∙ counted_is before draft.queries)
           ∙ ap (λ ns. ns ++ numbers_upto before (length draft.queries)) kept.numbers
@@ -253,4 +255,4 @@ kept_all laws before rules (draft ∷ drafts) all h kept =
 
 -- what is read as rules keeps what rules keep
 pub kept : DataQueriesAskNobody → ParameterQueriesNameNoBucket → (drafts : List Draft) (all : RuleSet) → rules_from 0 no_rules drafts ≡ Ok all → AreDrafts drafts → AreRules all
-kept asks names drafts all h are = kept_all (record { data_queries = asks; parameter_queries = names }) 0 no_rules drafts all h (record { differ = are.names_differ; fit = are.names_fit; sound = tt; numbers = refl })
+kept asks names drafts all h are = kept_all (record { data_queries = asks; parameter_queries = names }) 0 no_rules drafts all h (record { differ = are.names_differ; fit = are.names_fit; urgent = are.urgent; sound = tt; numbers = refl })

@@ -1,5 +1,5 @@
 -- What is written as rules is read.
-use Rattle.std.proofs.Common.{◌≡◌, ◌<◌, ℕ, ◌+◌, Bool, true, false, cond, List, [], ◌∷◌, ◌++◌, length, refl, sym, ap, subst, ◌∙◌, append_assoc, arith, Result, Ok, Err, bytes_eq}
+use Rattle.std.proofs.Common.{◌≡◌, ◌<◌, ℕ, ◌+◌, Bool, true, false, cond, List, [], ◌∷◌, ◌++◌, length, refl, sym, ap, subst, ◌∙◌, append_assoc, arith, Some, Result, Ok, Err, bytes_eq}
 use Rattle.std.specs.Prelude.{not, codes, ◌==◌, ◌||◌, ◌&&◌, if◌then◌else◌}
 use Rattle.std.specs.List.{list_all}
 use Rattle.std.proofs.lemmas.Slice.Eq.{bytes_eq-Decides}
@@ -20,12 +20,12 @@ use Rattle.ps_rules.specs.declared.faults.RulesFault.TheVariants as faults
 use Rattle.ps_rules.specs.Faults.{◌>>=◌, refuse, sql, Reads}
 use Rattle.ps_definitions.specs.Names.{is_in, has_repeated, same_names, output_names, is_definition_name}
 use Rattle.ps_definitions.specs.Branches.{branches_of}
-use Rattle.ps_rules.specs.Shapes.{layer_pairs, layer_written, written_of, all_written, layer_queries, queries_of, data_of, part_of, parts_of, no_parts, has_name, shape_fault, pair_fault, draft_of, draft_with, draft_names, drafts_from, definitions_of, sections_of, drafts_of}
+use Rattle.ps_rules.specs.Shapes.{layer_pairs, layer_written, written_of, all_written, layer_queries, queries_of, data_of, digit_of, priority_or, layer_priority, priority_of, part_of, parts_of, no_parts, has_name, shape_fault, pair_fault, draft_of, draft_with, draft_names, drafts_from, definitions_of, sections_of, drafts_of}
 use Rattle.ps_definitions.specs.Checks.{names_of, has_no_id, has_unknown, has_many_branches, is_matched}
 use Rattle.ps_rules.specs.Checks.{is_mixed, client_warning, known_from, known_with, all_known, planned_from, planned_of, all_planned, data_warning, checked_of}
 use Rattle.ps_rules.specs.Reading.{with_checked, rules_from, rules_of, no_rules}
 use Rattle.ps_definitions.specs.RuleSets.{RuleSet}
-use Rattle.ps_rules.specs.Grammar.{IsScalar, AreScalars, no_scalars, next_scalar, AreQueries, single, several, AreData, no_data, some_data, Give, given, data_given, parameters_given, nothing_given, IsDraft, Drafted, no_drafts, next_draft, IsDocumentOf, AreParametersOf, no_parameters, next_parameter, IsQueryOf, AreQueriesOf, no_queries, next_query, IsDefinition, AreDefinitions, no_definitions, next_definition, client_warnings, warnings_of, IsRules}
+use Rattle.ps_rules.specs.Grammar.{IsScalar, AreScalars, no_scalars, next_scalar, AreQueries, single, several, AreData, no_data, some_data, IsDigit, digit_0, digit_1, digit_2, digit_3, SaysPriority, Give, given, data_given, parameters_given, nothing_given, priority_given, IsDraft, Drafted, no_drafts, next_draft, IsDocumentOf, AreParametersOf, no_parameters, next_parameter, IsQueryOf, AreQueriesOf, no_queries, next_query, IsDefinition, AreDefinitions, no_definitions, next_definition, client_warnings, warnings_of, IsRules}
 use Rattle.ps_yaml.specs.Grammar.{Spells}
 use Rattle.ps_rules.proofs.Kept.{append_nil}
 use Rattle.ps_rules.proofs.Steps.{same_ok}
@@ -60,12 +60,22 @@ data_reads (some_data node all filled q) = ap (λ b. if b then Ok [] else querie
 
 -- ---- definitions
 
+digit_reads : {text : List ℕ} {priority : ℕ} → IsDigit text priority → digit_of text ≡ Some priority
+digit_reads digit_0 = refl
+digit_reads digit_1 = refl
+digit_reads digit_2 = refl
+digit_reads digit_3 = refl
+
+priority_reads : (node : Node) (priority : ℕ) → SaysPriority node priority → priority_of node ≡ Ok priority
+priority_reads node priority s = ap layer_priority s.is ∙ ap (priority_or s.line s.column) (digit_reads s.digit)
+
 -- what a pair adds, by its name
 abbrev part_named : Parts → Pair → List ℕ → Result Parts RulesFault
 part_named parts pair name =
     if bytes_eq name (codes "data") then (data_of pair.node >>= λ queries. Ok (record parts { queries = queries }))
     else if bytes_eq name (codes "parameters") then (queries_of pair.node >>= λ queries. Ok (record parts { parameters = queries }))
     else if bytes_eq name (codes "accept_potentially_dangerous_queries") then (written_of pair.node >>= λ ignored. Ok parts)
+    else if bytes_eq name (codes "priority") then (priority_of pair.node >>= λ priority. Ok (record parts { priority = priority }))
     else Err (pair_fault pair)
 
 part_is : (parts : Parts) (pair : Pair) → part_of parts pair ≡ part_named parts pair pair.name
@@ -80,13 +90,15 @@ give_reads (parameters_given parts pair pairs queries all named q rest) =
     on (λ (more : Parts). parts_of more pairs) (part_is parts pair ∙ ap (part_named parts pair) named ∙ on (λ (qs : List Written). Ok (record parts { parameters = qs })) (queries_read q)) ∙ give_reads rest
 give_reads (nothing_given parts pair pairs ignored all named s rest) =
     on (λ (more : Parts). parts_of more pairs) (part_is parts pair ∙ ap (part_named parts pair) named ∙ on (λ (w : Written). Ok parts) (scalar_reads pair.node ignored s)) ∙ give_reads rest
+give_reads (priority_given parts pair pairs priority all named s rest) =
+    on (λ (more : Parts). parts_of more pairs) (part_is parts pair ∙ ap (part_named parts pair) named ∙ on (λ (n : ℕ). Ok (record parts { priority = n })) (priority_reads pair.node priority s)) ∙ give_reads rest
 
 draft_reads : (pair : Pair) (draft : Draft) → IsDraft pair draft → draft_of pair ≡ Ok draft
 unfolding draft_of
 draft_reads pair draft d =
-    let made : Parts → Draft = λ parts. record { name = pair.name; line = pair.line; column = pair.column; parameters = parts.parameters; queries = parts.queries } in
+    let made : Parts → Draft = λ parts. record { name = pair.name; line = pair.line; column = pair.column; parameters = parts.parameters; queries = parts.queries; priority = parts.priority } in
     let name = sym d.name in let line = sym d.line in let column = sym d.column in
-    let is : made (record { parameters = draft.parameters; queries = draft.queries }) ≡ draft = λ i. record { name = name i; line = line i; column = column i; parameters = draft.parameters; queries = draft.queries } in
+    let is : made (record { parameters = draft.parameters; queries = draft.queries; priority = draft.priority }) ≡ draft = λ i. record { name = name i; line = line i; column = column i; parameters = draft.parameters; queries = draft.queries; priority = draft.priority } in
     on (λ pairs. refuse (not (has_name (codes "data") pairs)) (shape_fault pair.node) >>= λ has_data. parts_of no_parts pairs >>= λ (parts : Parts). Ok (made parts)) (ap layer_pairs d.is_map)
     ∙ unmet (shape_fault pair.node) (λ has_data. parts_of no_parts d.pairs >>= λ (parts : Parts). Ok (made parts)) (ap not d.has_data)
     ∙ on (λ (parts : Parts). Ok (made parts)) (give_reads d.gives) ∙ ap (λ (x : Draft). Ok x) is
@@ -205,10 +217,10 @@ unfolding checked_of
 checked_reads before draft definition is =
     let warnings : List Warning = data_warning draft ++ client_warnings draft.parameters definition.parameters in
     let known : Known = record { queries = definition.parameters; warnings = warnings } in
-    let made : Known → List Planned → Checked = λ k planned. record { definition = record { name = draft.name; names = names_of k.queries; parameters = k.queries; queries = planned }; warnings = k.warnings } in
-    let name = sym is.name in let names = sym is.names in
+    let made : Known → List Planned → Checked = λ k planned. record { definition = record { name = draft.name; priority = draft.priority; names = names_of k.queries; parameters = k.queries; queries = planned }; warnings = k.warnings } in
+    let name = sym is.name in let names = sym is.names in let priority = sym is.priority in
     let same : made known definition.queries ≡ record { definition = definition; warnings = warnings } =
-    λ i. record { definition = record { name = name i; names = names i; parameters = definition.parameters; queries = definition.queries }; warnings = warnings } in
+    λ i. record { definition = record { name = name i; priority = priority i; names = names i; parameters = definition.parameters; queries = definition.queries }; warnings = warnings } in
     on (λ (k : Known). all_planned (names_of k.queries) before [] draft.queries >>= λ (planned : List Planned). Ok (made k planned))
     (known_read is.parameters (record { queries = []; warnings = data_warning draft }) names)
     ∙ on (λ (planned : List Planned). Ok (made known planned)) (ap (λ ns. all_planned ns before [] draft.queries) names ∙ planned_read is.queries [])

@@ -18,7 +18,7 @@ use Rattle.ps_definitions.specs.Checks.{some_expr}
 use Rattle.ps_rules.specs.Checks.{client_warning, data_warning}
 use Rattle.ps_definitions.specs.Branches.{asks_parameters}
 use Rattle.ps_definitions.specs.RuleSets.{RuleSet, rises_past, WarningsRise}
-use Rattle.ps_rules.specs.Grammar.{IsScalar, AreScalars, no_scalars, next_scalar, AreQueries, single, several, Give, given, data_given, parameters_given, nothing_given, IsDraft, Drafted, no_drafts, next_draft, client_warnings, warnings_of, IsRules}
+use Rattle.ps_rules.specs.Grammar.{IsScalar, AreScalars, no_scalars, next_scalar, AreQueries, single, several, Give, given, data_given, parameters_given, nothing_given, priority_given, IsDraft, Drafted, no_drafts, next_draft, client_warnings, warnings_of, IsRules}
 
 -- ---- lines of warnings
 
@@ -140,6 +140,9 @@ parts_warned (parameters_given parts pair pairs own all named are rest) start fi
     let n : first ≤ next = omega (arith, l, node_ends node) in
     parts_warned rest start next behind (omega (arith, h, n)) more queries (sooner start pair.line (client_warnings own queries) next (omega (arith, h, l)) (queries_warned are pair.line next node queries))
 parts_warned (nothing_given parts pair pairs ignored all named is rest) start first behind h (next_pair _ next _ _ _ l node more) queries b =
+    let n : first ≤ next = omega (arith, l, node_ends node) in
+    parts_warned rest start next behind (omega (arith, h, n)) more queries (longer start (client_warnings parts.parameters queries) first next n b)
+parts_warned (priority_given parts pair pairs priority all named is rest) start first behind h (next_pair _ next _ _ _ l node more) queries b =
     let n : first ≤ next = omega (arith, l, node_ends node) in
     parts_warned rest start next behind (omega (arith, h, n)) more queries (longer start (client_warnings parts.parameters queries) first next n b)
 

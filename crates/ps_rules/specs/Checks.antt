@@ -97,4 +97,4 @@ unfoldable pub checked_of : ℕ → Draft → Result Checked RulesFault
 checked_of before draft = do
   known ← all_known (record { queries = []; warnings = data_warning draft }) draft.parameters
   planned ← all_planned (names_of known.queries) before [] draft.queries
-  Ok (record { definition = record { name = draft.name; names = names_of known.queries; parameters = known.queries; queries = planned }; warnings = known.warnings })
+  Ok (record { definition = record { name = draft.name; priority = draft.priority; names = names_of known.queries; parameters = known.queries; queries = planned }; warnings = known.warnings })

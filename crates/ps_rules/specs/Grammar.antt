@@ -41,7 +41,22 @@ pub data AreData : Node → List Written → Type 0 where
   no_data : (node : Node) → is_empty_scalar node ≡ true → AreData node []
   some_data : (node : Node) (all : List Written) → is_empty_scalar node ≡ false → AreQueries node all → AreData node all
 
--- what the pairs of a definition make of the parts before them: data queries, parameter queries, or a scalar that counts for nothing
+-- one digit from 0 to 3
+pub data IsDigit : List ℕ → ℕ → Type 0 where
+  digit_0 : IsDigit (codes "0") 0
+  digit_1 : IsDigit (codes "1") 1
+  digit_2 : IsDigit (codes "2") 2
+  digit_3 : IsDigit (codes "3") 3
+
+-- a node is a plain scalar that says a priority
+pub record SaysPriority (node : Node) (priority : ℕ) : Type 0 where
+  pub text : List ℕ
+  pub line : ℕ
+  pub column : ℕ
+  pub is : out-Node node ≡ layers.Scalar text line column true
+  pub digit : IsDigit text priority
+
+-- what the pairs of a definition make of the parts before them: data queries, parameter queries, a priority, or a scalar that counts for nothing
 pub data Give : Parts → List Pair → Parts → Type 0 where
   given : (parts : Parts) → Give parts [] parts
   data_given : (parts : Parts) (pair : Pair) (pairs : List Pair) (queries : List Written) (all : Parts)
@@ -50,6 +65,8 @@ pub data Give : Parts → List Pair → Parts → Type 0 where
       → pair.name ≡ codes "parameters" → AreQueries pair.node queries → Give (record parts { parameters = queries }) pairs all → Give parts (pair ∷ pairs) all
   nothing_given : (parts : Parts) (pair : Pair) (pairs : List Pair) (ignored : Written) (all : Parts)
       → pair.name ≡ codes "accept_potentially_dangerous_queries" → IsScalar pair.node ignored → Give parts pairs all → Give parts (pair ∷ pairs) all
+  priority_given : (parts : Parts) (pair : Pair) (pairs : List Pair) (priority : ℕ) (all : Parts)
+      → pair.name ≡ codes "priority" → SaysPriority pair.node priority → Give (record parts { priority = priority }) pairs all → Give parts (pair ∷ pairs) all
 
 -- a definition is a map with `data`
 pub record IsDraft (pair : Pair) (draft : Draft) : Type 0 where
@@ -61,7 +78,7 @@ pub record IsDraft (pair : Pair) (draft : Draft) : Type 0 where
   pub name : draft.name ≡ pair.name
   pub line : draft.line ≡ pair.line
   pub column : draft.column ≡ pair.column
-  pub gives : Give no_parts pairs (record { parameters = draft.parameters; queries = draft.queries })
+  pub gives : Give no_parts pairs (record { parameters = draft.parameters; queries = draft.queries; priority = draft.priority })
 
 pub data Drafted : List Pair → List Draft → Type 0 where
   no_drafts : Drafted [] []
@@ -117,6 +134,7 @@ pub data AreQueriesOf (names : List (List ℕ)) : ℕ → List Written → List 
 -- the names of parameters are those of the outputs of the first parameter query
 pub record IsDefinition (before : ℕ) (draft : Draft) (definition : Definition) : Type 0 where
   pub name : definition.name ≡ draft.name
+  pub priority : definition.priority ≡ draft.priority
   pub names : definition.names ≡ names_of definition.parameters
   pub parameters : AreParametersOf definition.names draft.parameters definition.parameters
   pub queries : AreQueriesOf definition.names before draft.queries definition.queries

@@ -1,5 +1,5 @@
 -- The shape of a rules document: its definitions with the texts of their queries, or the first place that has no such shape.
-use Rattle.std.specs.Prelude.{ℕ, Bool, false, not, ◌||◌, ◌==◌, if◌then◌else◌, List, [], ◌∷◌, ◌++◌, map, length, Result, Ok, Err, bytes_eq, codes}
+use Rattle.std.specs.Prelude.{ℕ, Bool, false, not, ◌||◌, ◌==◌, if◌then◌else◌, List, [], ◌∷◌, ◌++◌, map, length, Option, Some, None, Result, Ok, Err, bytes_eq, codes}
 use Rattle.std.specs.List.{list_any}
 use Rattle.ps_yaml.specs.declared.nodes.Node.{Node, Node-F, out-Node}
 use Rattle.ps_yaml.specs.declared.nodes.Node.TheOpen as layers
@@ -11,6 +11,7 @@ use Rattle.ps_rules.specs.declared.faults.RulesFault.{RulesFault}
 use Rattle.ps_rules.specs.declared.faults.RulesFault.TheVariants as faults
 use Rattle.ps_rules.specs.Faults.{◌>>=◌, refuse}
 use Rattle.ps_definitions.specs.Names.{is_in, is_definition_name}
+use Rattle.ps_definitions.specs.Priorities.{usual_priority}
 
 -- a node with its parts
 abbrev pub Layer : Type 0
@@ -79,6 +80,33 @@ is_empty_scalar node = layer_is_empty (out-Node node)
 abbrev pub data_of : Node → Result (List Written) RulesFault
 data_of node = if is_empty_scalar node then Ok [] else queries_of node
 
+-- ---- priorities
+
+-- one digit from 0 to 3
+abbrev pub digit_of : List ℕ → Option ℕ
+digit_of text =
+    if bytes_eq text (codes "0") then Some 0
+    else if bytes_eq text (codes "1") then Some 1
+    else if bytes_eq text (codes "2") then Some 2
+    else if bytes_eq text (codes "3") then Some 3
+    else None
+
+-- a scalar that says one is plain
+abbrev pub said_priority : List ℕ → Bool → Option ℕ
+said_priority text plain = if plain then digit_of text else None
+
+abbrev pub priority_or : ℕ → ℕ → Option ℕ → Result ℕ RulesFault
+priority_or line column (Some priority) = Ok priority
+priority_or line column None = Err (faults.Shape line column)
+
+abbrev pub layer_priority : Layer → Result ℕ RulesFault
+layer_priority (layers.Scalar text line column plain) = priority_or line column (said_priority text plain)
+layer_priority (layers.Map pairs line column) = Err (faults.Shape line column)
+layer_priority (layers.List items line column) = Err (faults.Shape line column)
+
+abbrev pub priority_of : Node → Result ℕ RulesFault
+priority_of node = layer_priority (out-Node node)
+
 -- ---- definitions
 
 -- what a pair of a definition adds to those before it
@@ -87,6 +115,7 @@ part_of parts pair =
     if bytes_eq pair.name (codes "data") then (data_of pair.node >>= λ queries. Ok (record parts { queries = queries }))
     else if bytes_eq pair.name (codes "parameters") then (queries_of pair.node >>= λ queries. Ok (record parts { parameters = queries }))
     else if bytes_eq pair.name (codes "accept_potentially_dangerous_queries") then (written_of pair.node >>= λ ignored. Ok parts)
+    else if bytes_eq pair.name (codes "priority") then (priority_of pair.node >>= λ priority. Ok (record parts { priority = priority }))
     else Err (pair_fault pair)
 
 abbrev pub parts_of : Parts → List Pair → Result Parts RulesFault
@@ -96,15 +125,15 @@ parts_of parts (pair ∷ pairs) = do
   parts_of more pairs
 
 abbrev pub no_parts : Parts
-no_parts = record { parameters = []; queries = [] }
+no_parts = record { parameters = []; queries = []; priority = usual_priority }
 
--- a definition has `data`, and may have `parameters` and `accept_potentially_dangerous_queries`
+-- a definition has `data`, and may have `parameters`, `priority` and `accept_potentially_dangerous_queries`
 unfoldable pub draft_of : Pair → Result Draft RulesFault
 draft_of pair = do
   pairs ← pairs_of pair.node
   has_data ← refuse (not (has_name (codes "data") pairs)) (shape_fault pair.node)
   parts ← parts_of no_parts pairs
-  Ok (record { name = pair.name; line = pair.line; column = pair.column; parameters = parts.parameters; queries = parts.queries })
+  Ok (record { name = pair.name; line = pair.line; column = pair.column; parameters = parts.parameters; queries = parts.queries; priority = parts.priority })
 
 abbrev pub draft_names : List Draft → List (List ℕ)
 draft_names drafts = map (λ (draft : Draft). draft.name) drafts

@@ -492,6 +492,7 @@ pub(crate) fn check(alloc: Global, before: u32, draft: Draft) -> Result<Checked,
         column: _,
         parameters,
         queries,
+        priority,
     } = draft;
     let Known {
         queries: known,
@@ -502,6 +503,7 @@ pub(crate) fn check(alloc: Global, before: u32, draft: Draft) -> Result<Checked,
     Ok(Checked {
         definition: Definition {
             name,
+            priority,
             names: names.into_names(),
             parameters: known,
             queries: planned,

@@ -10,11 +10,12 @@ pub struct Written {
     pub column: u32,
 }
 
-/// The queries that the pairs of a definition gave so far.
+/// What the pairs of a definition gave so far: its queries and its priority.
 #[derive(Drop)]
 pub struct Parts {
     pub parameters: Items<Written>,
     pub queries: Items<Written>,
+    pub priority: u8,
 }
 
 /// A definition of the right shape, before its checks, with the place of its name.
@@ -25,6 +26,7 @@ pub struct Draft {
     pub column: u32,
     pub parameters: Items<Written>,
     pub queries: Items<Written>,
+    pub priority: u8,
 }
 
 /// The parameter queries of a definition that were checked so far, with its warnings.

@@ -2,12 +2,13 @@ ghost use Rattle.std.specs.Prelude.{◌≡◌, []};
 ghost use Rattle.std.specs.List.{list_all};
 ghost use Rattle.ps_rules.specs.Faults.{Reads};
 ghost use Rattle.ps_definitions.specs.Names.{is_definition_name as fits_name, begins_word as begins_name, is_in_word as continues_name};
-ghost use Rattle.ps_rules.specs.Shapes.{shape_fault, is_empty_scalar, pairs_of as pairs_in, has_name as has_pair, written_of as written_in, all_written, queries_of as queries_in, data_of as data_in, part_of, parts_of as parts_in, no_parts, draft_of, draft_with, drafts_from, definitions_of as definitions_in, sections_of, drafts_of};
+ghost use Rattle.ps_rules.specs.Shapes.{shape_fault, digit_of, said_priority, priority_of as priority_in, is_empty_scalar, pairs_of as pairs_in, has_name as has_pair, written_of as written_in, all_written, queries_of as queries_in, data_of as data_in, part_of, parts_of as parts_in, no_parts, draft_of, draft_with, drafts_from, definitions_of as definitions_in, sections_of, drafts_of};
 
 use crate::RulesFault;
 use crate::drafts::{Draft, Parts, Written};
 use crate::name_sets::NameSet;
 use ps_data::{Items, Text};
+use ps_definitions::USUAL_PRIORITY;
 use ps_yaml::{Node, Pair};
 use std::alloc::Global;
 
@@ -112,6 +113,46 @@ fn data_of(alloc: Global, node: Node) -> Result<Items<Written>, RulesFault>
     queries_of(alloc, node)
 }
 
+// The priority that a text is: one digit from 0 to 3.
+fn digit_of(text: &Text) -> Option<u8>
+    ensures { result ≡ digit_of text.now }
+{
+    match text.as_str() {
+        "0" => Some(0),
+        "1" => Some(1),
+        "2" => Some(2),
+        "3" => Some(3),
+        _ => None,
+    }
+}
+
+// The priority that a scalar says, which is plain.
+fn said_priority(text: &Text, plain: bool) -> Option<u8>
+    ensures { result ≡ said_priority text.now plain }
+{
+    if plain { digit_of(text) } else { None }
+}
+
+// The priority that a node says.
+fn priority_of(node: Node) -> Result<u8, RulesFault>
+    ensures { Reads result (priority_in node) }
+{
+    match node {
+        Node::Scalar {
+            text,
+            line,
+            column,
+            plain,
+        } => match said_priority(&text, plain) {
+            Some(priority) => Ok(priority),
+            None => Err(RulesFault::Shape { line, column }),
+        },
+        Node::Map { line, column, .. } | Node::List { line, column, .. } => {
+            Err(RulesFault::Shape { line, column })
+        }
+    }
+}
+
 // What a pair of a definition adds to those before it.
 #[tactic(auto, unfolding(crate::specs::Shapes::part_of))]
 fn part(alloc: Global, parts: Parts, pair: Pair) -> Result<Parts, RulesFault>
@@ -120,6 +161,7 @@ fn part(alloc: Global, parts: Parts, pair: Pair) -> Result<Parts, RulesFault>
     let Parts {
         parameters,
         queries,
+        priority,
     } = parts;
     let Pair {
         name,
@@ -131,12 +173,14 @@ fn part(alloc: Global, parts: Parts, pair: Pair) -> Result<Parts, RulesFault>
         return Ok(Parts {
             parameters,
             queries: data_of(alloc, node)?,
+            priority,
         });
     }
     if name.as_str() == "parameters" {
         return Ok(Parts {
             parameters: queries_of(alloc, node)?,
             queries,
+            priority,
         });
     }
     if name.as_str() == "accept_potentially_dangerous_queries" {
@@ -144,18 +188,27 @@ fn part(alloc: Global, parts: Parts, pair: Pair) -> Result<Parts, RulesFault>
         return Ok(Parts {
             parameters,
             queries,
+            priority,
+        });
+    }
+    if name.as_str() == "priority" {
+        return Ok(Parts {
+            parameters,
+            queries,
+            priority: priority_of(node)?,
         });
     }
     Err(RulesFault::Shape { line, column })
 }
 
-// The queries of a definition's pairs.
+// What the pairs of a definition give.
 fn parts_of(alloc: Global, pairs: Items<Pair>) -> Result<Parts, RulesFault>
     ensures { Reads result (parts_in no_parts pairs) }
 {
     let mut parts = Parts {
         parameters: Items::new(alloc),
         queries: Items::new(alloc),
+        priority: USUAL_PRIORITY,
     };
     'pairs: for pair in pairs.into_vec() {
         parts = part(alloc, parts, pair)?;
@@ -182,6 +235,7 @@ fn draft(alloc: Global, pair: Pair) -> Result<Draft, RulesFault>
     let Parts {
         parameters,
         queries,
+        priority,
     } = parts_of(alloc, pairs)?;
     Ok(Draft {
         name,
@@ -189,6 +243,7 @@ fn draft(alloc: Global, pair: Pair) -> Result<Draft, RulesFault>
         column,
         parameters,
         queries,
+        priority,
     })
 }
 
