@@ -17,10 +17,10 @@ use Rattle.ps_bucket_log.specs.declared.ops.Op.{Op}
 use Rattle.ps_bucket_log.specs.declared.ops.Op.TheVariants.{Put, Remove}
 use Rattle.ps_bucket_log.specs.Ops.{id_of, newest}
 use Rattle.ps_bucket_log.specs.Logs.{IsRising}
-use Rattle.ps_lines.specs.Types.{Entry, Line, Data, Unknown, LineFault, BadJson, BadShape, BadNumber}
+use Rattle.ps_lines.specs.Types.{Entry, Line, Data, Partial, Unknown, LineFault, BadJson, BadShape, BadNumber}
 use Rattle.ps_lines.specs.Members.{Reads, ◌>>=◌, or_fault, within, text_at, truth_at, list_at, number_at, decimal_at, id_at, sum_of, sum_at, whole_of, whole_or, whole_at, priority_at}
-use Rattle.ps_lines.specs.Shapes.{has_text, has_truth, has_number, may_have_text, all_items, is_list, has_list, is_op_of, is_op, is_checkpoint, is_diff, is_data}
-use Rattle.ps_lines.specs.Reading.{upload_at, entry_of, entries_of, text_of, texts_of, key_of, put_of, remove_of, op_named, op_of, ops_of, rises_from, leads, checkpoint_of, diff_of, data_of, complete_of, expires_of, shaped, line_named, line_of_members, line_of_json, without_feed, line_of}
+use Rattle.ps_lines.specs.Shapes.{has_text, has_truth, has_number, may_have_text, all_items, is_list, has_list, is_op_of, is_op, is_checkpoint, is_diff, is_data, is_partial}
+use Rattle.ps_lines.specs.Reading.{upload_at, entry_of, entries_of, text_of, texts_of, key_of, put_of, remove_of, op_named, op_of, ops_of, rises_from, leads, checkpoint_of, diff_of, data_of, partial_of, complete_of, expires_of, shaped, line_named, line_of_members, line_of_json, without_feed, line_of}
 use Rattle.ps_lines.specs.Grammar.{HasText, HasTruth, HasDecimal, HasWholeOr, IsModulo, HasSum, AreAll, HasUpload, IsText, IsEntry, HasKey, IsOpOf, MayHaveData, IsOp, IsNamed, IsLine}
 
 -- ---- steps that were taken
@@ -452,6 +452,20 @@ data_line_found law name d line is shape h =
       led.2,
     )
 
+partial_found : ReadsWhatIsWritten → (name : List ℕ) (d : Json) (line : Line) → name ≡ codes "partial_checkpoint_complete" → partial_of d ≡ Ok line → IsNamed name d line
+partial_found law name d line is h =
+    let last_op = bound (id_at (codes "last_op_id") d) _ line h in
+    let priority = bound (priority_at d) _ line last_op.2 in
+    let whole = bound (whole_at 3 (codes "priority") d) _ priority.0 priority.1 in
+    let least = tested (leb whole.0 3) whole.0 priority.0 whole.2 in
+    let urgent : priority.0 ≤ 3 = grind (arith, nat_tests, least) in
+    subst (λ (x : Line). IsNamed name d x) {x = Partial last_op.0 priority.0} (ok_same _ line priority.2) (
+      is,
+      id_found law (codes "last_op_id") d last_op.0 last_op.1,
+      subst (λ (n : ℕ). HasWholeOr 3 (codes "priority") d n) least.1 (whole_or_found 3 (codes "priority") d whole.0 whole.1),
+      urgent,
+    )
+
 complete_found : ReadsWhatIsWritten → (name : List ℕ) (d : Json) (line : Line) → name ≡ codes "checkpoint_complete" → complete_of d ≡ Ok line → IsNamed name d line
 complete_found law name d line is h =
     let last_op = bound (id_at (codes "last_op_id") d) _ line h in
@@ -477,17 +491,21 @@ line_named_found law name d line h =
         | inl v ↦ diff_found law name d line (named_same name _ v.0) (shaped_found (is_diff d) (diff_of d) line v.1).1
         | inr v ↦ elim (chosen (bytes_eq name (codes "data")) _ _ (Ok line) v.1) [
           | inl u ↦ let both = shaped_found (is_data d) (data_of d) line u.1 in data_line_found law name d line (named_same name _ u.0) both.0 both.1
-          | inr u ↦ elim (chosen (bytes_eq name (codes "checkpoint_complete")) _ _ (Ok line) u.1) [
-            | inl t ↦ complete_found law name d line (named_same name _ t.0) t.1
-            | inr t ↦ elim (chosen (bytes_eq name (codes "token_expires_in")) _ _ (Ok line) t.1) [
-              | inl s ↦ expires_found name d line (named_same name _ s.0) s.1
-              | inr s ↦ subst (λ (x : Line). IsNamed name d x) (ok_same Unknown line s.1) (record {
-                checkpoint = differs name _ w.0;
-                diff = differs name _ v.0;
-                data_line = differs name _ u.0;
-                complete = differs name _ t.0;
-                expires = differs name _ s.0;
-              })
+          | inr u ↦ elim (chosen (bytes_eq name (codes "partial_checkpoint_complete")) _ _ (Ok line) u.1) [
+            | inl p ↦ partial_found law name d line (named_same name _ p.0) (shaped_found (is_partial d) (partial_of d) line p.1).1
+            | inr p ↦ elim (chosen (bytes_eq name (codes "checkpoint_complete")) _ _ (Ok line) p.1) [
+              | inl t ↦ complete_found law name d line (named_same name _ t.0) t.1
+              | inr t ↦ elim (chosen (bytes_eq name (codes "token_expires_in")) _ _ (Ok line) t.1) [
+                | inl s ↦ expires_found name d line (named_same name _ s.0) s.1
+                | inr s ↦ subst (λ (x : Line). IsNamed name d x) (ok_same Unknown line s.1) (record {
+                  checkpoint = differs name _ w.0;
+                  diff = differs name _ v.0;
+                  data_line = differs name _ u.0;
+                  partial = differs name _ p.0;
+                  complete = differs name _ t.0;
+                  expires = differs name _ s.0;
+                })
+              ]
             ]
           ]
         ]

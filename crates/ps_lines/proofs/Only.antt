@@ -13,7 +13,7 @@ use Rattle.ps_bucket_log.specs.declared.ops.Op.{Op}
 use Rattle.ps_bucket_log.specs.declared.ops.Op.TheVariants.{Put, Remove, Move, Clear}
 use Rattle.ps_bucket_log.specs.Ops.{id_of, newest}
 use Rattle.ps_bucket_log.specs.Logs.{IsRising}
-use Rattle.ps_lines.specs.Types.{Entry, Line, Checkpoint, Diff, Data, Complete, Expires, Unknown, LineFault, BadShape}
+use Rattle.ps_lines.specs.Types.{Entry, Line, Checkpoint, Diff, Data, Partial, Complete, Expires, Unknown, LineFault, BadShape}
 use Rattle.ps_lines.specs.Members.{Reads, or_fault, text_at, decimal_at, id_at, sum_of, sum_at, whole_at}
 use Rattle.ps_lines.specs.Shapes.{has_number, may_have_number, may_have_text, all_items, is_text, is_entry, is_op}
 use Rattle.ps_lines.specs.Reading.{upload_at, entry_of, entries_of, texts_of, op_of, ops_of, rises_from, leads, line_named, line_of}
@@ -156,10 +156,13 @@ named_read law name d (Diff last_op upload removed updated) h =
     rw (h.0, upload_shape d upload h.2, id_read law (codes "last_op_id") d last_op h.1, h.1.0, upload_read law d upload h.2, h.3.1, texts_shape h.3.0 removed h.3.2, texts_read h.3.0 removed h.3.2, h.4.1, entries_shape h.4.0 updated h.4.2, entries_read h.4.0 updated h.4.2) refl
 named_read law name d (Data bucket after has_more ops next) h =
     rw (h.0, id_read law (codes "after") d after h.2, id_read law (codes "next_after") d next h.5, h.1, h.2.0, h.3, h.5.0, h.4.1, ops_shaped h.4.0 ops h.4.2, ops_read law h.4.0 ops h.4.2, leads_read after.0 next.0 ops h.6 h.7 h.8) refl
+named_read law name d (Partial last_op priority) h =
+    let least : leb priority 3 ≡ true = grind (arith, nat_tests, h.3) in
+    rw (h.0, whole_or_shape 3 (codes "priority") d priority h.2, id_read law (codes "last_op_id") d last_op h.1, h.1.0, whole_or_read 3 (codes "priority") d priority h.2, least) refl
 named_read law name d (Complete last_op) h = rw (h.0, id_read law (codes "last_op_id") d last_op h.1) refl
 named_read law name d (Expires seconds) h = rw (h.0, h.1) refl
 named_read law name d Unknown h =
-    rw (apart name (codes "checkpoint") h.checkpoint, apart name (codes "checkpoint_diff") h.diff, apart name (codes "data") h.data_line, apart name (codes "checkpoint_complete") h.complete, apart name (codes "token_expires_in") h.expires) refl
+    rw (apart name (codes "checkpoint") h.checkpoint, apart name (codes "checkpoint_diff") h.diff, apart name (codes "data") h.data_line, apart name (codes "partial_checkpoint_complete") h.partial, apart name (codes "checkpoint_complete") h.complete, apart name (codes "token_expires_in") h.expires) refl
 
 -- what has the form is read with that line
 read_spelled : ReadsWhatIsWritten → (bytes : List ℕ) (line : Line) → IsLine bytes line → line_of bytes ≡ Ok line

@@ -6,7 +6,7 @@ use Rattle.ps_data.specs.Numbers.{greatest}
 use Rattle.ps_values.specs.Laws.{ReadsWhatIsWritten}
 use Rattle.ps_lines.specs.declared.lines.Entry.{Entry}
 use Rattle.ps_lines.specs.declared.lines.Line.{Line}
-use Rattle.ps_lines.specs.declared.lines.Line.TheVariants.{Checkpoint, Diff, Data, Complete, Expires, Unknown}
+use Rattle.ps_lines.specs.declared.lines.Line.TheVariants.{Checkpoint, Diff, Data, Partial, Complete, Expires, Unknown}
 use Rattle.ps_lines.specs.Grammar.{AreAll, HasUpload, IsEntry, IsNamed}
 use Rattle.ps_lines.specs.Laws.{LinesReadCanBeWritten}
 use Rattle.ps_lines.specs.Writing.{IsWritable}
@@ -30,6 +30,7 @@ named_writable : (name : List ℕ) (d : Json) (line : Line) → IsNamed name d l
 named_writable name d (Checkpoint last_op upload buckets) is known = (is.1.1, low_upload d upload is.2, urgent is.3.0 buckets is.3.2)
 named_writable name d (Diff last_op upload removed updated) is known = (is.1.1, low_upload d upload is.2, urgent is.4.0 updated is.4.2)
 named_writable name d (Data bucket after has_more ops next) is known = (is.5.1, is.6, is.7, is.8)
+named_writable name d (Partial last_op priority) is known = (is.1.1, is.3)
 named_writable name d (Complete last_op) is known = is.1.1
 named_writable name d (Expires seconds) is known = tt
 named_writable name d Unknown is known = absurd (known refl)

@@ -25,7 +25,7 @@ use Rattle.ps_lines.proofs.Texts.{line_shallow}
 use Rattle.ps_lines.proofs.Tokens.{IsReadOfItsTokens, items_read, read_of_tokens}
 use Rattle.ps_lines.specs.Tokens.{tokens_of}
 use Rattle.ps_lines.specs.declared.faults.LineFault.TheVariants.{BadNumber}
-use Rattle.ps_lines.specs.Types.{Entry, Line, Checkpoint, Diff, Data, Complete, Expires, Unknown}
+use Rattle.ps_lines.specs.Types.{Entry, Line, Checkpoint, Diff, Data, Partial, Complete, Expires, Unknown}
 use Rattle.ps_lines.specs.Members.{or_fault, within, sum_of, ◌>>=◌}
 use Rattle.ps_lines.specs.Shapes.{all_items, is_entry, is_op, is_text}
 use Rattle.ps_lines.specs.Reading.{entry_of, entries_of, texts_of, op_of, ops_of, rises_from, leads, line_of_json, without_feed, line_of}
@@ -159,6 +159,9 @@ line_back back (Data bucket after has_more ops next) w fits =
     let last : last_from after.0 ops ≤ greatest = rw (last_is after.0 ops w.1, w.3) w.0 in
     let first : after.0 ≤ greatest = omega (arith, last_past after.0 ops w.2, last) in
     rw (ops_shape ops, back after.0 first, ops_back back ops fits (ids_within after.0 greatest ops w.2 last), back next.0 w.0, leads_back after.0 next.0 ops w.1 w.2 w.3) refl
+line_back back (Partial last_op priority) w fits =
+    let least : leb priority 3 ≡ true = grind (arith, nat_tests, w.1) in
+    rw (back last_op.0 w.0, least) refl
 line_back back (Complete last_op) w fits = rw (back last_op.0 w) refl
 line_back back (Expires seconds) w fits = refl
 line_back back Unknown w fits = absurd w
@@ -194,6 +197,7 @@ line_read (Checkpoint last_op (Some n) buckets) w sums counts = rw (entries_read
 line_read (Diff last_op None removed updated) w sums counts = rw (texts_read removed, entries_read updated sums counts w.2) refl
 line_read (Diff last_op (Some n) removed updated) w sums counts = rw (texts_read removed, entries_read updated sums counts w.2) refl
 line_read (Data bucket after has_more ops next) w sums counts = rw (ops_read ops sums) refl
+line_read (Partial last_op priority) w sums counts = rw (number_of-decimal priority (omega (arith, w.1))) refl
 line_read (Complete last_op) w sums counts = refl
 line_read (Expires seconds) w sums counts = rw (number_of-decimal seconds counts) refl
 line_read Unknown w sums counts = absurd w

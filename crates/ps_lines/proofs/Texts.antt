@@ -10,7 +10,7 @@ use Rattle.serde_json.proofs.Texts.{print-outline}
 use Rattle.ps_bucket_log.specs.declared.ops.Op.{Op}
 use Rattle.ps_bucket_log.specs.declared.ops.Op.TheVariants.{Put, Remove, Move, Clear}
 use Rattle.ps_lines.specs.Tokens.{tokens_of}
-use Rattle.ps_lines.specs.Types.{Entry, Line, Checkpoint, Diff, Data, Complete, Expires, Unknown}
+use Rattle.ps_lines.specs.Types.{Entry, Line, Checkpoint, Diff, Data, Partial, Complete, Expires, Unknown}
 use Rattle.ps_lines.specs.Writing.{entry_json, op_json, line_json, text_of}
 
 pub items_plain : {A : Type 0} (f : A → Json) → ((x : A) → has_float (f x) ≡ false) → (xs : List A) → items_have_float (items_of (map f xs)) ≡ false
@@ -49,6 +49,7 @@ line_shallow (Diff last_op (Some n) removed updated) =
     let h = items_shallow string (λ t. omega arith) removed in
     let k = items_shallow entry_json entry_shallow updated in omega (arith, h, k)
 line_shallow (Data bucket after has_more ops next) = let h = items_shallow op_json op_shallow ops in omega (arith, h)
+line_shallow (Partial last_op priority) = omega arith
 line_shallow (Complete last_op) = omega arith
 line_shallow (Expires seconds) = omega arith
 line_shallow Unknown = omega arith

@@ -13,7 +13,7 @@ use Rattle.ps_bucket_log.specs.Ops.{newest}
 use Rattle.ps_bucket_log.specs.Logs.{IsRising}
 use Rattle.ps_lines.specs.declared.lines.Entry.{Entry}
 use Rattle.ps_lines.specs.declared.lines.Line.{Line}
-use Rattle.ps_lines.specs.declared.lines.Line.TheVariants.{Checkpoint, Diff, Data, Complete, Expires, Unknown}
+use Rattle.ps_lines.specs.declared.lines.Line.TheVariants.{Checkpoint, Diff, Data, Partial, Complete, Expires, Unknown}
 use Rattle.ps_lines.specs.Reading.{without_feed}
 
 abbrev pub HasText : List ℕ → Json → List ℕ → Type 0
@@ -101,6 +101,7 @@ pub record IsOther (name : List ℕ) : Type 0 where
   pub checkpoint : name ≢ codes "checkpoint"
   pub diff : name ≢ codes "checkpoint_diff"
   pub data_line : name ≢ codes "data"
+  pub partial : name ≢ codes "partial_checkpoint_complete"
   pub complete : name ≢ codes "checkpoint_complete"
   pub expires : name ≢ codes "token_expires_in"
 
@@ -115,6 +116,8 @@ IsNamed name d (Data bucket after has_more ops next) = (name ≡ codes "data")
     × HasText (codes "bucket") d bucket × HasDecimal (codes "after") d after.0 × HasTruth (codes "has_more") d has_more
     × HasList IsOp (codes "data") d ops × HasDecimal (codes "next_after") d next.0
     × (ops ≢ []) × IsRising after.0 ops × (newest ops ≡ next.0)
+IsNamed name d (Partial last_op priority) = (name ≡ codes "partial_checkpoint_complete")
+    × HasDecimal (codes "last_op_id") d last_op.0 × HasWholeOr 3 (codes "priority") d priority × (priority ≤ 3)
 IsNamed name d (Complete last_op) = (name ≡ codes "checkpoint_complete") × HasDecimal (codes "last_op_id") d last_op.0
 IsNamed name d (Expires seconds) = (name ≡ codes "token_expires_in") × (d ≡ number (unsigned seconds))
 IsNamed name d Unknown = IsOther name

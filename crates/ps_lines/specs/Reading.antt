@@ -13,9 +13,9 @@ use Rattle.ps_lines.specs.declared.faults.LineFault.{LineFault}
 use Rattle.ps_lines.specs.declared.faults.LineFault.TheVariants.{BadJson, BadShape}
 use Rattle.ps_lines.specs.declared.lines.Entry.{Entry}
 use Rattle.ps_lines.specs.declared.lines.Line.{Line}
-use Rattle.ps_lines.specs.declared.lines.Line.TheVariants.{Checkpoint, Diff, Data, Complete, Expires, Unknown}
+use Rattle.ps_lines.specs.declared.lines.Line.TheVariants.{Checkpoint, Diff, Data, Partial, Complete, Expires, Unknown}
 use Rattle.ps_lines.specs.Members.{◌>>=◌, or_fault, within, text_at, truth_at, list_at, decimal_at, id_at, sum_at, whole_of, whole_at, priority_at}
-use Rattle.ps_lines.specs.Shapes.{lacks, has_null, is_checkpoint, is_diff, is_data}
+use Rattle.ps_lines.specs.Shapes.{lacks, has_null, is_checkpoint, is_diff, is_data, is_partial}
 
 -- an upload's number; a missing one and null are none
 abbrev pub upload_at : Json → Result (Option ℕ) LineFault
@@ -128,6 +128,12 @@ data_of d = do
   next ← id_at (codes "next_after") d
   within (leads after.0 ops next.0) (Data bucket after has_more ops next)
 
+abbrev pub partial_of : Json → Result Line LineFault
+partial_of d = do
+  last_op ← id_at (codes "last_op_id") d
+  priority ← priority_at d
+  Ok (Partial last_op priority)
+
 abbrev pub complete_of : Json → Result Line LineFault
 complete_of d = do
   last_op ← id_at (codes "last_op_id") d
@@ -148,6 +154,7 @@ line_named name d =
     if bytes_eq name (codes "checkpoint") then shaped (is_checkpoint d) (checkpoint_of d)
     else if bytes_eq name (codes "checkpoint_diff") then shaped (is_diff d) (diff_of d)
     else if bytes_eq name (codes "data") then shaped (is_data d) (data_of d)
+    else if bytes_eq name (codes "partial_checkpoint_complete") then shaped (is_partial d) (partial_of d)
     else if bytes_eq name (codes "checkpoint_complete") then complete_of d
     else if bytes_eq name (codes "token_expires_in") then expires_of d
     else Ok Unknown

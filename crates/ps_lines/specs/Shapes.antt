@@ -73,6 +73,9 @@ abbrev pub is_data : Json → Bool
 is_data d = has_text (codes "bucket") d && has_text (codes "after") d && has_truth (codes "has_more") d
     && has_list is_op (codes "data") d && has_text (codes "next_after") d
 
+abbrev pub is_partial : Json → Bool
+is_partial d = has_text (codes "last_op_id") d && may_have_number (codes "priority") d
+
 abbrev pub is_complete : Json → Bool
 is_complete d = has_text (codes "last_op_id") d
 

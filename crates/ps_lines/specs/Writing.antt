@@ -13,7 +13,7 @@ use Rattle.ps_bucket_log.specs.Ops.{newest, checksum}
 use Rattle.ps_bucket_log.specs.Logs.{IsRising}
 use Rattle.ps_lines.specs.declared.lines.Entry.{Entry}
 use Rattle.ps_lines.specs.declared.lines.Line.{Line}
-use Rattle.ps_lines.specs.declared.lines.Line.TheVariants.{Checkpoint, Diff, Data, Complete, Expires, Unknown}
+use Rattle.ps_lines.specs.declared.lines.Line.TheVariants.{Checkpoint, Diff, Data, Partial, Complete, Expires, Unknown}
 
 -- the object of named values
 abbrev pub members_of : List (List ℕ × Json) → Members
@@ -101,6 +101,9 @@ data_json bucket after has_more ops next = object_of (
     ∷ (codes "next_after", decimal_json next.0)
     ∷ [])
 
+abbrev pub partial_json : OpId → ℕ → Json
+partial_json last_op priority = object_of ((codes "last_op_id", decimal_json last_op.0) ∷ (codes "priority", number (unsigned priority)) ∷ [])
+
 abbrev pub complete_json : OpId → Json
 complete_json last_op = object_of ((codes "last_op_id", decimal_json last_op.0) ∷ [])
 
@@ -109,6 +112,7 @@ abbrev pub line_json : Line → Json
 line_json (Checkpoint last_op upload buckets) = object_of ((codes "checkpoint", checkpoint_json last_op upload buckets) ∷ [])
 line_json (Diff last_op upload removed updated) = object_of ((codes "checkpoint_diff", diff_json last_op upload removed updated) ∷ [])
 line_json (Data bucket after has_more ops next) = object_of ((codes "data", data_json bucket after has_more ops next) ∷ [])
+line_json (Partial last_op priority) = object_of ((codes "partial_checkpoint_complete", partial_json last_op priority) ∷ [])
 line_json (Complete last_op) = object_of ((codes "checkpoint_complete", complete_json last_op) ∷ [])
 line_json (Expires seconds) = object_of ((codes "token_expires_in", number (unsigned seconds)) ∷ [])
 line_json Unknown = object_of []
@@ -125,6 +129,7 @@ IsWritable (Diff last_op upload removed updated) =
     (last_op.0 ≤ greatest) × IfSome upload (λ n. n ≤ greatest) × All (λ entry. entry.priority ≤ 3) updated
 IsWritable (Data bucket after has_more ops next) =
     (next.0 ≤ greatest) × (ops ≢ []) × IsRising after.0 ops × (newest ops ≡ next.0)
+IsWritable (Partial last_op priority) = (last_op.0 ≤ greatest) × (priority ≤ 3)
 IsWritable (Complete last_op) = last_op.0 ≤ greatest
 IsWritable (Expires seconds) = Unit {0}
 IsWritable Unknown = ⊥
@@ -134,6 +139,7 @@ abbrev pub SumsFit : Line → Type 0
 SumsFit (Checkpoint last_op upload buckets) = All (λ entry. entry.sum.0 < 2 ^ 32) buckets
 SumsFit (Diff last_op upload removed updated) = All (λ entry. entry.sum.0 < 2 ^ 32) updated
 SumsFit (Data bucket after has_more ops next) = All (λ op. checksum op < 2 ^ 32) ops
+SumsFit (Partial last_op priority) = Unit {0}
 SumsFit (Complete last_op) = Unit {0}
 SumsFit (Expires seconds) = Unit {0}
 SumsFit Unknown = Unit {0}
@@ -143,6 +149,7 @@ abbrev pub CountsFit : Line → Type 0
 CountsFit (Checkpoint last_op upload buckets) = All (λ entry. entry.count < 2 ^ 64) buckets
 CountsFit (Diff last_op upload removed updated) = All (λ entry. entry.count < 2 ^ 64) updated
 CountsFit (Data bucket after has_more ops next) = Unit {0}
+CountsFit (Partial last_op priority) = Unit {0}
 CountsFit (Complete last_op) = Unit {0}
 CountsFit (Expires seconds) = seconds < 2 ^ 64
 CountsFit Unknown = Unit {0}
@@ -158,6 +165,7 @@ abbrev pub without_targets : Line → Line
 without_targets (Checkpoint last_op upload buckets) = Checkpoint last_op upload buckets
 without_targets (Diff last_op upload removed updated) = Diff last_op upload removed updated
 without_targets (Data bucket after has_more ops next) = Data bucket after has_more (map op_without_target ops) next
+without_targets (Partial last_op priority) = Partial last_op priority
 without_targets (Complete last_op) = Complete last_op
 without_targets (Expires seconds) = Expires seconds
 without_targets Unknown = Unknown

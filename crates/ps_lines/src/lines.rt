@@ -51,6 +51,13 @@ pub enum Line {
         /// The id of the last operation.
         next_after: OpId,
     },
+    /// All operations of the checkpoint's buckets of at most a priority were sent.
+    Partial {
+        /// The newest operation that the checkpoint covers.
+        last_op: OpId,
+        /// The priority, from 0, the most urgent, to 3.
+        priority: u8,
+    },
     /// All operations of the checkpoint were sent.
     Complete {
         /// The newest operation that it covers.

@@ -5,13 +5,13 @@ ghost use Rattle.serde_json.specs.View.{view, items_view, members_view};
 ghost use Rattle.ps_lines.specs.declared.lines.Line.{Line as SomeLine};
 ghost use Rattle.ps_lines.specs.Grammar.{IsLine};
 ghost use Rattle.ps_lines.specs.Members.{Reads};
-ghost use Rattle.ps_lines.specs.Reading.{upload_at, entry_of, entries_of, texts_of, key_of, put_of, op_named, op_of, ops_of, rises_from as rises_past, leads as leads_to, checkpoint_of, diff_of, data_of, expires_of, shaped, line_named, line_of_members, without_feed as cut_feed, line_of};
-ghost use Rattle.ps_lines.specs.Shapes.{is_checkpoint as is_checkpoint_shape, is_diff as is_diff_shape, is_data as is_data_shape};
+ghost use Rattle.ps_lines.specs.Reading.{upload_at, entry_of, entries_of, texts_of, key_of, put_of, op_named, op_of, ops_of, rises_from as rises_past, leads as leads_to, checkpoint_of, diff_of, data_of, partial_of, expires_of, shaped, line_named, line_of_members, without_feed as cut_feed, line_of};
+ghost use Rattle.ps_lines.specs.Shapes.{is_checkpoint as is_checkpoint_shape, is_diff as is_diff_shape, is_data as is_data_shape, is_partial as is_partial_shape};
 
 use crate::members::{
     read_decimal_at, read_id, read_priority, read_sum, read_text, read_truth, read_whole,
 };
-use crate::shapes::{is_checkpoint, is_data, is_diff};
+use crate::shapes::{is_checkpoint, is_data, is_diff, is_partial};
 use crate::{Entry, Line, LineFault};
 use ps_bucket_log::{Key, Op};
 use ps_checksum::Sum;
@@ -85,6 +85,9 @@ fn read_named(alloc: Global, name: &str, json: &Json) -> Result<Line, LineFault>
     if name == "data" {
         return read_shaped_data(alloc, json);
     }
+    if name == "partial_checkpoint_complete" {
+        return read_shaped_partial(alloc, json);
+    }
     if name == "checkpoint_complete" {
         let last_op = read_id(alloc, json, "last_op_id")?;
         return Ok(Line::Complete { last_op });
@@ -132,6 +135,23 @@ fn read_shaped_data(alloc: Global, json: &Json) -> Result<Line, LineFault>
         return Err(LineFault::BadShape);
     }
     read_data(alloc, json)
+}
+
+fn read_shaped_partial(alloc: Global, json: &Json) -> Result<Line, LineFault>
+    ensures { Reads result (shaped (is_partial_shape (view json.now)) (partial_of (view json.now))) }
+{
+    if !is_partial(json) {
+        return Err(LineFault::BadShape);
+    }
+    read_partial(alloc, json)
+}
+
+fn read_partial(alloc: Global, json: &Json) -> Result<Line, LineFault>
+    ensures { Reads result (partial_of (view json.now)) }
+{
+    let last_op = read_id(alloc, json, "last_op_id")?;
+    let priority = read_priority(json)?;
+    Ok(Line::Partial { last_op, priority })
 }
 
 fn read_checkpoint(alloc: Global, json: &Json) -> Result<Line, LineFault>

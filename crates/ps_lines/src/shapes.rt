@@ -2,7 +2,7 @@
 
 ghost use Rattle.std.specs.Prelude.{◌≡◌, Some};
 ghost use Rattle.serde_json.specs.View.{view, items_view};
-ghost use Rattle.ps_lines.specs.Shapes.{has_text as text_is_there, has_truth as truth_is_there, has_number as number_is_there, may_have_number as number_may_be_there, may_have_text as text_may_be_there, all_items, has_list, is_text, is_entry as is_entry_shape, has_key as key_is_there, is_op_of, is_op as is_op_shape, is_checkpoint as is_checkpoint_shape, is_diff as is_diff_shape, is_data as is_data_shape};
+ghost use Rattle.ps_lines.specs.Shapes.{has_text as text_is_there, has_truth as truth_is_there, has_number as number_is_there, may_have_number as number_may_be_there, may_have_text as text_may_be_there, all_items, has_list, is_text, is_entry as is_entry_shape, has_key as key_is_there, is_op_of, is_op as is_op_shape, is_checkpoint as is_checkpoint_shape, is_diff as is_diff_shape, is_data as is_data_shape, is_partial as is_partial_shape};
 
 use serde_json::Value as Json;
 
@@ -170,4 +170,10 @@ pub fn is_data(json: &Json) -> bool
         && has_truth(json, "has_more")
         && has_ops(json, "data")
         && has_text(json, "next_after")
+}
+
+pub fn is_partial(json: &Json) -> bool
+    ensures { result ≡ is_partial_shape (view json.now) }
+{
+    has_text(json, "last_op_id") && may_have_number(json, "priority")
 }

@@ -2,7 +2,7 @@ ghost use Rattle.std.specs.Prelude.{◌≡◌, ◌<◌, ◌^◌, All, IfOk, OnOk
 ghost use Rattle.ps_bucket_log.specs.Ops.{checksum};
 ghost use Rattle.ps_lines.specs.Reading.{line_of};
 ghost use Rattle.ps_lines.specs.Tokens.{tokens_of, member_tokens, Adds};
-ghost use Rattle.ps_lines.specs.Writing.{list_json, entry_json, op_json, put_json, remove_json, bare_json, checkpoint_json, diff_json, data_json, complete_json, line_json, text_of, IsWritable, SumsFit, CountsFit, without_targets};
+ghost use Rattle.ps_lines.specs.Writing.{list_json, entry_json, op_json, put_json, remove_json, bare_json, checkpoint_json, diff_json, data_json, partial_json, complete_json, line_json, text_of, IsWritable, SumsFit, CountsFit, without_targets};
 
 use crate::member_writers::{
     begin_member, write_decimal, write_flag, write_number, write_priority, write_sum, write_text,
@@ -86,6 +86,12 @@ fn write_json(writer: &mut Writer, line: &Line) -> Result<(), Memory>
             writer.end_object()?;
             Ok(())
         }
+        Line::Partial { last_op, priority } => {
+            begin_member(writer, "partial_checkpoint_complete")?;
+            write_partial(writer, *last_op, *priority)?;
+            writer.end_object()?;
+            Ok(())
+        }
         Line::Complete { last_op } => {
             begin_member(writer, "checkpoint_complete")?;
             write_complete(writer, *last_op)?;
@@ -157,6 +163,16 @@ fn write_data(
     write_ops(writer, "data", ops)?;
     write_flag(writer, "has_more", has_more)?;
     write_decimal(writer, "next_after", next_after.0)?;
+    writer.end_object()?;
+    Ok(())
+}
+
+fn write_partial(writer: &mut Writer, last_op: OpId, priority: u8) -> Result<(), Memory>
+    ensures { OnOk result (Adds writer.old writer.new (tokens_of (partial_json last_op priority))) }
+{
+    writer.begin_object()?;
+    write_decimal(writer, "last_op_id", last_op.0)?;
+    write_priority(writer, "priority", priority)?;
     writer.end_object()?;
     Ok(())
 }

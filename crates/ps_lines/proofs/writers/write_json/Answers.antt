@@ -16,6 +16,10 @@ returns-in_ok-end_object-in-Data-clause-value c =
     rw (c.in-Data.is, ← c.as_slice-in-Data.ensures)
     (behind c.in_ok-begin_member-in-Data.ensures (behind c.in_ok-write_data-in-Data.ensures.value (added c.in_ok-end_object-in-Data.ensures)))
 
+pub returns-in_ok-end_object-in-Partial-clause-value : goal.returns-in_ok-end_object-in-Partial-clause-value
+returns-in_ok-end_object-in-Partial-clause-value c =
+    rw c.in-Partial.is (behind c.in_ok-begin_member-in-Partial.ensures (behind c.in_ok-write_partial-in-Partial.ensures (added c.in_ok-end_object-in-Partial.ensures)))
+
 pub returns-in_ok-end_object-in-Complete-clause-value : goal.returns-in_ok-end_object-in-Complete-clause-value
 returns-in_ok-end_object-in-Complete-clause-value c =
     rw c.in-Complete.is (behind c.in_ok-begin_member-in-Complete.ensures (behind c.in_ok-write_complete-in-Complete.ensures (added c.in_ok-end_object-in-Complete.ensures)))
