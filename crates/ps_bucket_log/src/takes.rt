@@ -14,6 +14,8 @@ pub struct TakenBucket {
     pub count: u64,
     /// The newest id of the operations, 0 where there is none.
     pub newest: OpId,
+    /// How urgent it is, from 0, the most urgent, to 3.
+    pub priority: u8,
 }
 
 /// The checkpoint, as it is for one asker.

@@ -23,15 +23,15 @@ fn is_bracket(byte: Option<u8>) -> bool
 }
 
 // Whether a bucket is a definition's.
-fn is_bucket_of(definition: &Text, bucket: &Text) -> bool
+fn is_bucket_of(definition: &Text, bucket: &[u8]) -> bool
     ensures { result ≡ is_of definition.now bucket.now }
 {
-    let (name, bytes) = (definition.bytes(), bucket.bytes());
-    bytes.starts_with(name) && is_bracket(bytes.get(name.len()).copied())
+    let name = definition.bytes();
+    bucket.starts_with(name) && is_bracket(bucket.get(name.len()).copied())
 }
 
-/// The priority of a bucket of definitions: that of the one whose name stands before its bracket.
-pub(crate) fn priority_of(definitions: &[Definition], bucket: &Text) -> u8
+/// The priority of a bucket, by its name: that of the definition whose name stands before its bracket.
+pub(crate) fn priority_of(definitions: &[Definition], bucket: &[u8]) -> u8
     requires { AllByRecursion IsSound definitions.now }
     ensures value { result ≡ priority_among definitions.now bucket.now }
     ensures range { result ≤ 3 }

@@ -97,9 +97,9 @@ impl Rules {
         self.tables.read.contains(table)
     }
 
-    /// The priority of a bucket, from 0, the most urgent, to 3: that of the definition whose name stands before its bracket,
-    /// and 3 where there is none. It looks at each definition up to that one.
-    pub fn priority_of(&self, bucket: &Text) -> u8
+    /// The priority of a bucket by its name, from 0, the most urgent, to 3: that of the definition whose name stands before its
+    /// bracket, and 3 where there is none. It looks at each definition up to that one.
+    pub fn priority_of(&self, bucket: &[u8]) -> u8
         ensures value { result ≡ priority_of self.now.definitions bucket.now }
         ensures range { result ≤ 3 }
     {

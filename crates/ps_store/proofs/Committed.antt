@@ -74,22 +74,23 @@ asked_of rules number asker rows name are b =
     (bucket_begins b.0.name b.1 (at_one IsSound rules.definitions b.0 are.sound (contains_has rules.definitions b.0 b.2)).name))
 
 pub rows_due : LatestRowsAreGranted → CommittedRowsAreDue
-rows_due granted_law rules history asker kept rows are numbers legal sql holds latest =
+rows_due granted_law rules history some asker kept rows are numbers legal among sql holds latest =
     let l : Ledger = ledger_of rules history in
     let h : IsWell l = well_history rules history are numbers legal in
     let ds : List Definition = l.force.rules.definitions in
     let there : Source = source_after [] (front l h) in
     let source : there ≡ checkpoint_source rules history = front_source l h in
-    let taken : HoldsLaneBuckets (mark l h) ds asker (rows_in there) (held_of (lane_ops (mark l h) ds [] (front l h))) kept = record {
+    let taken : HoldsLaneBuckets (mark l h) some asker (rows_in there) (held_of (lane_ops (mark l h) ds [] (front l h))) kept = record {
       own = λ bucket is key.
-          let here : IsBucketOf ds asker (rows_in (checkpoint_source rules history)) bucket = subst (λ (s : Source). IsBucketOf ds asker (rows_in s) bucket) source is in
-          let ops = front_ops l h bucket (asked_of l.force.rules l.force.number asker (rows_in (checkpoint_source rules history)) bucket h.force.are here) in
+          let here : IsBucketOf some asker (rows_in (checkpoint_source rules history)) bucket = subst (λ (s : Source). IsBucketOf some asker (rows_in s) bucket) source is in
+          let wider : IsBucketOf ds asker (rows_in (checkpoint_source rules history)) bucket = (here.0, here.1, among here.0 here.2, here.3, here.4) in
+          let ops = front_ops l h bucket (asked_of l.force.rules l.force.number asker (rows_in (checkpoint_source rules history)) bucket h.force.are wider) in
           holds.own bucket here key ∙ sym (ap (λ (os : List Op). (bucket_of os).held key) ops);
-      only = λ bucket key some. let r = holds.only bucket key some in (r.0, r.1, subst (λ (s : Source). IsBucketOf ds asker (rows_in s) r.0) (sym source) r.2);
+      only = λ bucket key some. let r = holds.only bucket key some in (r.0, r.1, subst (λ (s : Source). IsBucketOf some asker (rows_in s) r.0) (sym source) r.2);
     } in
-    granted_law (mark l h) l.force.rules (front l h) asker kept rows h.force.are h.force.have (front_rises l h)
-    (subst (λ (s : Source). AreSqlVectors ds asker (rows_in s)) (sym source) sql) taken latest
-    ∙ ap (λ (s : Source). rows_of (granted ds asker s)) source
+    granted_law (mark l h) l.force.rules some (front l h) asker kept rows h.force.are h.force.have (front_rises l h) among
+    (subst (λ (s : Source). AreSqlVectors some asker (rows_in s)) (sym source) sql) taken latest
+    ∙ ap (λ (s : Source). rows_of (granted some asker s)) source
 
 -- ---- what readers hold of the whole generation
 

@@ -249,13 +249,14 @@ module _ (d : Definition) (q : Planned) (row : SourceRow) (x : Placed) where
 
 -- ---- copies and entries
 
-module _ (rules : RuleSet) (asker : Asker) (source : Source) (are : AreRules rules) (sorted : T (is_sorted key_cmp source)) (sql : AreSqlVectors rules.definitions asker (rows_in source))
+module _ (rules : RuleSet) (some_of : List Definition) (asker : Asker) (source : Source) (are : AreRules rules) (among : (d : Definition) → Has some_of d → Has rules.definitions d)
+    (sorted : T (is_sorted key_cmp source)) (sql : AreSqlVectors some_of asker (rows_in source))
     (same : IsSameForEveryAsker) (differ : NamesDiffer) (placed : (row : SourceRow) → PlacedWhereItHolds rules row (entries_of rules.definitions row)) where
   abbrev vectors : Definition → List (List Value)
   vectors d = parameter_vectors d asker (rows_in source)
 
   abbrev Stands : Granted → Type 0
-  Stands c = (s : Standing rules.definitions source) × IsBucketOf rules.definitions asker (rows_in source) s.entry.bucket × IsCopyOf s c
+  Stands c = (s : Standing rules.definitions source) × IsBucketOf some_of asker (rows_in source) s.entry.bucket × IsCopyOf s c
 
   sound_at : (d : Definition) → Has rules.definitions d → IsSound d
   sound_at d i = all_of IsSound rules.definitions d are.sound i
@@ -267,18 +268,18 @@ module _ (rules : RuleSet) (asker : Asker) (source : Source) (are : AreRules rul
   nobody_asked : (d : Definition) (q : Planned) → Has rules.definitions d → Has d.queries q → (some_asks q.query.outputs ≡ false) × (condition_speaks subjects.Asker q.query.condition ≡ false)
   nobody_asked d q i j = or_parts (some_asks q.query.outputs) (condition_speaks subjects.Asker q.query.condition) (query_at d q i j).no_asker
 
-  is_vector : (key : Key) (version : Version) (d : Definition) (q : Planned) (object : List ℕ) (values : List Value) → Has rules.definitions d → Has d.queries q → Has (vectors d) values
+  is_vector : (key : Key) (version : Version) (d : Definition) (q : Planned) (object : List ℕ) (values : List Value) → Has some_of d → Has d.queries q → Has (vectors d) values
       → q.query.table ≡ key.0 → object_id (alone key.1 version.columns) q.query ≡ Some object → IsVectorOf rules (row_of key version.columns) d q object values
   is_vector key version d q object values i j k table shows = record {
-    of_rules = has_contains rules.definitions d i;
+    of_rules = has_contains rules.definitions d (among d i);
     of_definition = has_contains d.queries q j;
     of_table = table;
     shows = shows;
-    each = each_named d asker (rows_in source) values (sound_at d i).names k;
-    values_of_sql = sql d values (has_contains rules.definitions d i) (has_contains (vectors d) values k);
+    each = each_named d asker (rows_in source) values (sound_at d (among d i)).names k;
+    values_of_sql = sql d values (has_contains some_of d i) (has_contains (vectors d) values k);
   }
 
-  of_grant : (key : Key) (version : Version) (d : Definition) (q : Planned) (c : Granted) → Has rules.definitions d → Has d.queries q → Has source (key, version)
+  of_grant : (key : Key) (version : Version) (d : Definition) (q : Planned) (c : Granted) → Has some_of d → Has d.queries q → Has source (key, version)
       → grant_of asker d.names (vectors d) q (key, version) ≡ Some c → Stands c
   of_grant key version d q c i j k g =
       let row = read_row (key, version) in
@@ -286,7 +287,7 @@ module _ (rules : RuleSet) (asker : Asker) (source : Source) (are : AreRules rul
       let tests = and_parts (bytes_eq key.0 q.query.table) (holds_for_some asker d.names (vectors d) q.query row) parts.0 in
       let some = any_has (λ vector. holds (given_for asker d.names row vector) q.query.condition) (vectors d) tests.1 in
       let shown = mapped (copy_with asker q (key, version)) (object_id (asked_of asker row) q.query) c parts.1 in
-      let asked = nobody_asked d q i j in
+      let asked = nobody_asked d q (among d i) j in
       let vector = is_vector key version d q shown.0 some.0 i j some.1 (sym (same_name key.0 q.query.table tests.0)) (sym (same_object same asker row q.query asked.0) ∙ shown.1) in
       let holds_there = sym (same_holds same (given_for asker d.names row some.0) q.query.condition asked.1) ∙ some.2 in (
         record {
@@ -296,7 +297,7 @@ module _ (rules : RuleSet) (asker : Asker) (source : Source) (are : AreRules rul
           entry = entry_of d q (row_of key version.columns) shown.0 some.0;
           is_entry = (placed (row_of key version.columns) d q shown.0 some.0 vector).0 (holds_Holds (with_vector key.1 version.columns d.names some.0) q.query.condition holds_there);
         },
-        (d, some.0, has_contains rules.definitions d i, has_contains (vectors d) some.0 some.1, refl),
+        (d, some.0, has_contains some_of d i, has_contains (vectors d) some.0 some.1, refl),
         record {
           kind = ap (λ (z : Granted). z.kind) shown.2;
           id = ap (λ (z : Granted). z.id) shown.2;
@@ -308,20 +309,20 @@ module _ (rules : RuleSet) (asker : Asker) (source : Source) (are : AreRules rul
       )
 
   -- a copy is of an entry that stands in a bucket of the asker's
-  pub granted_stands : (c : Granted) → Has (granted rules.definitions asker source) c → Stands c
+  pub granted_stands : (c : Granted) → Has (granted some_of asker source) c → Stands c
   granted_stands c h =
-      let d = from_flat (granted_by asker source) rules.definitions c h in
+      let d = from_flat (granted_by asker source) some_of c h in
       let q = from_flat (granted_by_query asker d.0.names (vectors d.0) source) d.0.queries c d.2 in
       let e = from_filter_map (grant_of asker d.0.names (vectors d.0) q.0) source c q.2 in
       of_grant e.0.0 e.0.1 d.0 q.0 c d.1 q.1 e.1 e.2
 
   -- the copy that a query makes of a row, for a vector for which its condition holds
-  grant_there : (key : Key) (version : Version) (d : Definition) (q : Planned) (object : List ℕ) (values : List Value) → Has rules.definitions d → Has d.queries q → Has (vectors d) values
+  grant_there : (key : Key) (version : Version) (d : Definition) (q : Planned) (object : List ℕ) (values : List Value) → Has some_of d → Has d.queries q → Has (vectors d) values
       → q.query.table ≡ key.0 → object_id (alone key.1 version.columns) q.query ≡ Some object → holds (with_vector key.1 version.columns d.names values) q.query.condition ≡ true
       → grant_of asker d.names (vectors d) q (key, version) ≡ Some (copy_with asker q (key, version) object)
   grant_there key version d q object values i j k table shows holds_there =
       let row = read_row (key, version) in
-      let asked = nobody_asked d q i j in
+      let asked = nobody_asked d q (among d i) j in
       let some = has_any (λ vector. holds (given_for asker d.names row vector) q.query.condition) (vectors d) values k
       (same_holds same (given_for asker d.names row values) q.query.condition asked.1 ∙ holds_there) in
       ap (λ b. if b then copy_of asker q (key, version) else None)
@@ -329,27 +330,28 @@ module _ (rules : RuleSet) (asker : Asker) (source : Source) (are : AreRules rul
       ∙ ap (option_map (copy_with asker q (key, version))) (same_object same asker row q.query asked.0 ∙ shows)
 
   abbrev IsGranted : Standing rules.definitions source → Type 0
-  IsGranted s = (c : Granted) × Has (granted rules.definitions asker source) c × IsCopyOf s c
+  IsGranted s = (c : Granted) × Has (granted some_of asker source) c × IsCopyOf s c
 
   of_shape : (s : Standing rules.definitions source) (d : Definition) (q : Planned) → Has rules.definitions d → Has d.queries q → IsShape d q (row_of s.key s.version.columns) s.entry
-      → IsBucketOf rules.definitions asker (rows_in source) s.entry.bucket → IsGranted s
+      → IsBucketOf some_of asker (rows_in source) s.entry.bucket → IsGranted s
   of_shape s d q i j shape b =
       let row = row_of s.key s.version.columns in
-      let k = contains_has rules.definitions b.0 b.2 in
+      let k = contains_has some_of b.0 b.2 in
       let bucket : bucket_name_of d.name shape.values ≡ bucket_name_of b.0.name b.1 = ap (λ (z : Placed). z.bucket) shape.is ∙ b.4 in
-      let one : b.0 ≡ d = same_named rules.definitions b.0 d are.names_differ k i
-      (differ b.0.name d.name b.1 shape.values (sound_at b.0 k).name (sound_at d i).name (sql b.0 b.1 b.2 b.3) (sym bucket)).0 in
+      let one : b.0 ≡ d = same_named rules.definitions b.0 d are.names_differ (among b.0 k) i
+      (differ b.0.name d.name b.1 shape.values (sound_at b.0 (among b.0 k)).name (sound_at d i).name (sql b.0 b.1 b.2 b.3) (sym bucket)).0 in
+      let mine : Has some_of d = subst (λ (z : Definition). Has some_of z) one k in
       let own : Has (vectors d) b.1 = subst (λ (z : Definition). Has (vectors z) b.1) one (contains_has (vectors b.0) b.1 b.3) in
       let entry : entry_of d q row shape.object b.1 ≡ s.entry =
       ap (placed_in q row shape.object) (ap (λ (z : Definition). bucket_name_of z.name b.1) (sym one) ∙ sym bucket) ∙ shape.is in
-      let vector = is_vector s.key s.version d q shape.object b.1 i j own shape.table shape.shows in
+      let vector = is_vector s.key s.version d q shape.object b.1 mine j own shape.table shape.shows in
       let holds_there = Holds_holds (with_vector s.key.1 s.version.columns d.names b.1) q.query.condition
       ((placed row d q shape.object b.1 vector).1 (subst (λ (z : Placed). Contains (entries_of rules.definitions row) z) (sym entry) s.is_entry)) in
       let copy = copy_with asker q (s.key, s.version) shape.object in
-      let grant = grant_there s.key s.version d q shape.object b.1 i j own shape.table shape.shows holds_there in
+      let grant = grant_there s.key s.version d q shape.object b.1 mine j own shape.table shape.shows holds_there in
       let asked = nobody_asked d q i j in (
         copy,
-        has_flat (granted_by asker source) rules.definitions d copy i
+        has_flat (granted_by asker source) some_of d copy mine
             (has_flat (granted_by_query asker d.names (vectors d) source) d.queries q copy j
             (has_filter_map (grant_of asker d.names (vectors d) q) source (s.key, s.version) copy (from_find source s.key s.version s.there) grant)),
         record {
@@ -363,7 +365,7 @@ module _ (rules : RuleSet) (asker : Asker) (source : Source) (are : AreRules rul
       )
 
   -- an entry that stands in a bucket of the asker's has a copy
-  pub stands_granted : (s : Standing rules.definitions source) → IsBucketOf rules.definitions asker (rows_in source) s.entry.bucket → IsGranted s
+  pub stands_granted : (s : Standing rules.definitions source) → IsBucketOf some_of asker (rows_in source) s.entry.bucket → IsGranted s
   stands_granted s b =
       let row = row_of s.key s.version.columns in
       let d = from_flat (definition_entries row) rules.definitions s.entry (contains_has (entries_of rules.definitions row) s.entry s.is_entry) in

@@ -59,18 +59,18 @@ not_true_false : (b : Bool) → (b ≡ true → ⊥) → b ≡ false
 not_true_false true h = absurd (h refl)
 not_true_false false h = refl
 
-module _ (definitions : List Definition) (asker : Asker) (source : Source) (mark : List ℕ) (held kept : Holding) (rows : List Shown)
+module _ (definitions some_of : List Definition) (asker : Asker) (source : Source) (mark : List ℕ) (held kept : Holding) (rows : List Shown)
     (standing : HoldsStanding definitions source (in_lane mark held))
-    (granted_stands : (c : Granted) → Has (granted definitions asker source) c → (s : Standing definitions source) × IsBucketOf definitions asker (rows_in source) s.entry.bucket × IsCopyOf s c)
-    (stands_granted : (s : Standing definitions source) → IsBucketOf definitions asker (rows_in source) s.entry.bucket → (c : Granted) × Has (granted definitions asker source) c × IsCopyOf s c)
-    (holds : HoldsLaneBuckets mark definitions asker (rows_in source) held kept) (are : ShowsLatest kept rows) where
+    (granted_stands : (c : Granted) → Has (granted some_of asker source) c → (s : Standing definitions source) × IsBucketOf some_of asker (rows_in source) s.entry.bucket × IsCopyOf s c)
+    (stands_granted : (s : Standing definitions source) → IsBucketOf some_of asker (rows_in source) s.entry.bucket → (c : Granted) × Has (granted some_of asker source) c × IsCopyOf s c)
+    (holds : HoldsLaneBuckets mark some_of asker (rows_in source) held kept) (are : ShowsLatest kept rows) where
   abbrev copies : List Granted
-  copies = granted definitions asker source
+  copies = granted some_of asker source
 
   abbrev copy_held : (s : Standing definitions source) → HeldCopy
   copy_held s = record { bucket = mark ++ s.entry.bucket; key = s.entry.key; put = (standing.each s).0 }
 
-  is_held : (s : Standing definitions source) → IsBucketOf definitions asker (rows_in source) s.entry.bucket → IsHeld kept (copy_held s)
+  is_held : (s : Standing definitions source) → IsBucketOf some_of asker (rows_in source) s.entry.bucket → IsHeld kept (copy_held s)
   is_held s b = holds.own s.entry.bucket b s.entry.key ∙ (standing.each s).1
 
   object_same : (s : Standing definitions source) (c : Granted) → IsCopyOf s c → held_rows.object_of (copy_held s) ≡ object_of c
@@ -106,7 +106,7 @@ module _ (definitions : List Definition) (asker : Asker) (source : Source) (mark
       let there : held (mark ++ name) h.key ≡ Some h.put = owned name h bucket.1 (holds.own name bucket.2 h.key) latest.there in
       let s = standing.only name h.key h.put there in
       let at : mark ++ s.0.entry.bucket ≡ h.bucket = ap (λ b. mark ++ b) s.1 ∙ sym bucket.1 in
-      let g = stands_granted s.0 (subst (λ b. IsBucketOf definitions asker (rows_in source) b) (sym s.1) bucket.2) in
+      let g = stands_granted s.0 (subst (λ b. IsBucketOf some_of asker (rows_in source) b) (sym s.1) bucket.2) in
       let of_object : object_of g.0 ≡ row_object row = (λ i. (sym g.2.kind i, sym g.2.id i)) ∙ (λ i. ((s.2 i).kind, (s.2 i).id)) ∙ object in
       let own : row.content ≡ g.0.content = sym is_content ∙ put_content s.0.entry h.put s.3 ∙ g.2.content in
       let held_there : held h.bucket h.key ≡ Some h.put = subst (λ b. held b h.key ≡ Some h.put) (sym bucket.1) there in (

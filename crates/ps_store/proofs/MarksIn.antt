@@ -100,6 +100,12 @@ marked_none mark es none = sym (unmarked es) ∙ ap (λ (m : List ℕ). marked m
 
 -- ---- as texts are read
 
+-- past the end of a text nothing stands
+pub nothing_behind : (n : ℕ) (text : List ℕ) → length text < n → [] ≡ drop n text
+nothing_behind zero text past = absurd (omega (arith, past))
+nothing_behind (suc n) [] past = refl
+nothing_behind (suc n) (b ∷ text) past = nothing_behind n text (omega (arith, past))
+
 pub begins_is : (mark text : List ℕ) → starts_with nat_eq text mark ≡ begins_with mark text
 begins_is [] text = refl
 begins_is (b ∷ mark) [] = refl

@@ -38,7 +38,7 @@ use Rattle.ps_store.specs.Readings.{AreTold, names_of, bucket_upto, Takes, batch
 use Rattle.ps_store.specs.StepLaws.{transactions_upto}
 use Rattle.ps_store.specs.StoreLogs.{log_at}
 use Rattle.ps_store.specs.Stores.{StoreStandsFor}
-use Rattle.ps_store.specs.Generations.{mark_of, is_of, Ending, ending_of}
+use Rattle.ps_store.specs.Generations.{mark_of, is_of, rank_in, rank_of, Ending, ending_of}
 use Rattle.ps_store.specs.Limits.{greatest}
 use Rattle.ps_store.specs.StoreGenerations.{by_of, prefixed, log_of, ending_from, ending_at}
 use Rattle.ps_store.specs.declared.generations.Ending.{Ending as StoredEnding}
@@ -110,9 +110,9 @@ length_map f [] = refl
 length_map f (x ∷ xs) = ap suc (length_map f xs)
 
 -- what is taken of buckets has their names
-pub names_kept : (op : ℕ) (log : List ℕ → List Op) (names : List (List ℕ)) → names ≡ map (λ (b : TakenBucket). b.name) (map (λ (name : List ℕ). bucket_upto op name (log name)) names)
-names_kept op log [] = refl
-names_kept op log (name ∷ names) = ap (λ ns. name ∷ ns) (names_kept op log names)
+pub names_kept : (op : ℕ) (rank : List ℕ → ℕ) (log : List ℕ → List Op) (names : List (List ℕ)) → names ≡ map (λ (b : TakenBucket). b.name) (map (λ (name : List ℕ). bucket_upto op rank name (log name)) names)
+names_kept op rank log [] = refl
+names_kept op rank log (name ∷ names) = ap (λ ns. name ∷ ns) (names_kept op rank log names)
 
 -- functions that give the same of each name
 same_at : (f g : List ℕ → TakenBucket) (names : List (List ℕ)) → ((name : List ℕ) → Has names name → f name ≡ g name) → map f names ≡ map g names
@@ -215,14 +215,14 @@ module _ (fixed : Fixed) (store : Store) (history : List Event) (h : StoreStands
       own_logs : (name : List ℕ) → Has (names_of l asker) name → log_at store.logs name ≡ l.log name
       own_logs name has = h.stands.logs name ∙ log_mine l.force.number l.log name (names_own l.force.number l.force.rules asker rows well.force.are name has)
 
-      few_are : (buckets : List TakenBucket) → length names ≤ store.fixed.limits.buckets → buckets ≡ map (λ (name : List ℕ). bucket_upto store.checkpoint.op.0 name (log_at store.logs name)) marked
+      few_are : (rank : List ℕ → ℕ) (buckets : List TakenBucket) → length names ≤ store.fixed.limits.buckets → buckets ≡ map (λ (name : List ℕ). bucket_upto store.checkpoint.op.0 rank name (log_at store.logs name)) marked
           → length buckets ≤ fixed.limits.buckets
-      few_are buckets few are =
+      few_are rank buckets few are =
           let length_marked : length marked ≡ length names = ap length marked_is ∙ length_map (λ (name : List ℕ). store.generations.mark ++ name) names in
-          omega (arith, few, limit_is, length_marked, ap length are, length_map (λ (name : List ℕ). bucket_upto store.checkpoint.op.0 name (log_at store.logs name)) marked)
+          omega (arith, few, limit_is, length_marked, ap length are, length_map (λ (name : List ℕ). bucket_upto store.checkpoint.op.0 rank name (log_at store.logs name)) marked)
 
-      pub take_done : (buckets : List TakenBucket) (number : Option ℕ) → number ≡ covered_of l asker → ArePlainTold names → length names ≤ store.fixed.limits.buckets
-          → buckets ≡ map (λ (name : List ℕ). bucket_upto store.checkpoint.op.0 name (log_at store.logs name)) marked
+      pub take_done : (by : RuleSet) → by ≡ (by_of store).rules → (buckets : List TakenBucket) (number : Option ℕ) → number ≡ covered_of l asker → ArePlainTold names → length names ≤ store.fixed.limits.buckets
+          → buckets ≡ map (λ (name : List ℕ). bucket_upto store.checkpoint.op.0 (rank_in store.generations.mark by.definitions) name (log_at store.logs name)) marked
           → Takes fixed history asker (Ok (record {
             position = store.checkpoint.position;
             head = store.head;
@@ -231,15 +231,17 @@ module _ (fixed : Fixed) (store : Store) (history : List Event) (h : StoreStands
             number = number;
             buckets = buckets;
           }))
-      take_done buckets number covers told few are =
-          let op_is : (λ (name : List ℕ). bucket_upto store.checkpoint.op.0 name (log_at store.logs name)) ≡ (λ (name : List ℕ). bucket_upto l.op name (log_at store.logs name)) =
-          λ i name. bucket_upto (h.stands.op i) name (log_at store.logs name) in
-          let all : buckets ≡ map (λ (name : List ℕ). bucket_upto l.op name (l.log name)) (names_of l asker) =
+      take_done by by_is buckets number covers told few are =
+          let rank : List ℕ → ℕ = rank_in store.generations.mark by.definitions in
+          let rank_is : rank ≡ rank_of l.force = λ i. rank_in (h.stands.generations.mark_is i) (((by_is ∙ sym h.stands.rules) i).definitions) in
+          let op_is : (λ (name : List ℕ). bucket_upto store.checkpoint.op.0 rank name (log_at store.logs name)) ≡ (λ (name : List ℕ). bucket_upto l.op (rank_of l.force) name (log_at store.logs name)) =
+          λ i name. bucket_upto (h.stands.op i) (rank_is i) name (log_at store.logs name) in
+          let all : buckets ≡ map (λ (name : List ℕ). bucket_upto l.op (rank_of l.force) name (l.log name)) (names_of l asker) =
           are
           ∙ (λ i. map (op_is i) (names_are i))
-          ∙ same_at (λ (name : List ℕ). bucket_upto l.op name (log_at store.logs name)) (λ (name : List ℕ). bucket_upto l.op name (l.log name)) (names_of l asker) (λ name has. ap (bucket_upto l.op name) (own_logs name has)) in
+          ∙ same_at (λ (name : List ℕ). bucket_upto l.op (rank_of l.force) name (log_at store.logs name)) (λ (name : List ℕ). bucket_upto l.op (rank_of l.force) name (l.log name)) (names_of l asker) (λ name has. ap (bucket_upto l.op (rank_of l.force) name) (own_logs name has)) in
           let named : names_of l asker ≡ map (λ (b : TakenBucket). b.name) buckets =
-          names_kept l.op l.log (names_of l asker) ∙ ap (map (λ (b : TakenBucket). b.name)) (sym all) in
+          names_kept l.op (rank_of l.force) l.log (names_of l asker) ∙ ap (map (λ (b : TakenBucket). b.name)) (sym all) in
           record {
             value = λ i. record {
               position = record { 0 = h.stands.position i };
@@ -249,7 +251,7 @@ module _ (fixed : Fixed) (store : Store) (history : List Event) (h : StoreStands
               number = covers i;
               buckets = all i;
             };
-            few = few_are buckets few are;
+            few = few_are rank buckets few are;
             rise = subst (IsStrictlySortedBy (slice_cmp nat_cmp)) named
                 (rises_sorted name_cmp (names_of l asker) (marked_rise l.force.number (bucket_names l.force.rules.definitions asker rows) (in_order_rises (flat_map (definition_names asker rows) l.force.rules.definitions))));
             told = subst AreTold named (all_told l.force.number l.force.rules asker rows number_low well.force.are (subst ArePlainTold plain_are told));

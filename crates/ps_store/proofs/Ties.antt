@@ -93,3 +93,13 @@ pub ties_agree : (rules : RuleSet) (asker : Asker) (source : Source) → AreRule
 ties_agree rules asker source are tell c d h g object below above =
     let copies = granted rules.definitions asker source in
     tied_same rules asker source are tell c d (contains_has copies c h) (contains_has copies d g) (neither_later c d below above) object
+
+-- what some definitions grant is granted by all
+pub ties_among : (rules : RuleSet) (some : List Definition) (asker : Asker) (source : Source) → ((d : Definition) → Has some d → Has rules.definitions d)
+    → TiesAgree (granted rules.definitions asker source) → TiesAgree (granted some asker source)
+ties_among rules some asker source among agree c d h g object below above = agree c d (wider c h) (wider d g) object below above
+  where
+    wider : (c : Granted) → Contains (granted some asker source) c → Contains (granted rules.definitions asker source) c
+    wider c h =
+        let by = from_flat (granted_by asker source) some c (contains_has (granted some asker source) c h) in
+        has_contains (granted rules.definitions asker source) c (has_flat (granted_by asker source) rules.definitions by.0 c (among by.0 by.1) by.2)

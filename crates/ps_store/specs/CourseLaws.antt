@@ -18,7 +18,7 @@ use Rattle.ps_store.specs.declared.events.Event.{Event}
 use Rattle.ps_store.specs.declared.events.Event.TheVariants.{WriteCheckpoint}
 use Rattle.ps_bucket_log.specs.declared.takes.Taken.{Taken}
 use Rattle.ps_bucket_log.specs.declared.takes.TakenBucket.{TakenBucket}
-use Rattle.ps_store.specs.Courses.{Course, Upload, ledger_at, course_of, upload_of, uploads_of, bucket_in, is_in}
+use Rattle.ps_store.specs.Courses.{Course, Upload, ledger_at, course_of, upload_of, uploads_of, bucket_in, is_in, is_upto}
 use Rattle.ps_store.specs.Latest.{ShowsLatest}
 use Rattle.ps_store.specs.Laws.{HaveNumbers}
 use Rattle.ps_store.specs.Ledgers.{ledger_of, last_number, IsLegal}
@@ -44,6 +44,11 @@ pub record HoldsTaken (course : Course) (n : ℕ) (held : Holding) : Type 0 wher
   pub own : (name : List ℕ) → is_in (course.take n).buckets name ≡ true → (key : Key) → held name key ≡ (due_bucket course n name).held key
   pub only : (name : List ℕ) → is_in (course.take n).buckets name ≡ false → (key : Key) → held name key ≡ None
 
+-- of the buckets of at most a priority that were taken at a place is held what their due readers hold, and of no other anything
+pub record HoldsUpto (course : Course) (n priority : ℕ) (held : Holding) : Type 0 where
+  pub own : (name : List ℕ) → is_upto priority (bucket_in name (course.take n).buckets) ≡ true → (key : Key) → held name key ≡ (due_bucket course n name).held key
+  pub only : (name : List ℕ) → is_upto priority (bucket_in name (course.take n).buckets) ≡ false → (key : Key) → held name key ≡ None
+
 -- who is honest stays so as the history grows; who begins afresh is honest
 pub record StayHonest (course : Course) : Type 0 where
   pub later : (n m : ℕ) (name : List ℕ) (bucket : Bucket) → n ≤ m → IsHonestAt course n name bucket → IsHonestAt course m name bucket
@@ -66,11 +71,12 @@ pub record BatchesKeepHonest (course : Course) : Type 0 where
       → IsHonestUpTo bucket (course.original n name) (course.op n) c
       → (bucket.total ≡ (bucket_of (upto c (course.original n name))).total) × ((key : Key) → bucket.held key ≡ (bucket_of (upto c (course.original n name))).held key)
 
--- a bucket that was taken has a sum of 32 bits, and a count and an id that are not past the greatest
+-- a bucket that was taken has a sum of 32 bits, a count and an id that are not past the greatest, and a priority from 0 to 3
 pub record IsLow (bucket : TakenBucket) : Type 0 where
   pub sum_low : bucket.sum.0 < 2 ^ 32
   pub count_low : bucket.count ≤ greatest
   pub newest_low : bucket.newest.0 ≤ greatest
+  pub urgent : bucket.priority ≤ 3
 
 -- checkpoints do not fall; a batch tells of nothing that is not committed, and of what is asked for alone, in ids that rise from past the one
 -- that is asked after; what a take names is read on, or passed by; and nothing that is read is past the greatest
@@ -90,9 +96,9 @@ pub record Climb (course : Course) : Type 0 where
   pub ids_low : (n low high : ℕ) (name : List ℕ) → AllByRecursion (λ (op : Op). id_of op ≤ greatest) (course.batch n name low high).ops
   pub sums_low : (n low high : ℕ) (name : List ℕ) → AllByRecursion (λ (op : Op). checksum op < 2 ^ 32) (course.batch n name low high).ops
 
--- a take tells the checkpoint, and of each bucket the sum and the newest id of its original operations up to it; and who holds what
--- these make of the taken buckets, and nothing else, shows the rows that are due, where the buckets' vectors are of integers of signed
--- 64 bits
+-- a take tells the checkpoint, and of each bucket the sum and the newest id of its original operations up to it; a bucket has one priority
+-- in all takes; and who holds what these make of the taken buckets, and nothing else, shows the rows that are due, where the buckets'
+-- vectors are of integers of signed 64 bits, and so it is of the buckets of at most a priority and the definitions of at most that
 pub record TakesTell (course : Course) : Type 0 where
   pub op : (n : ℕ) → (course.take n).last_op.0 ≡ course.op n
   pub number : (n : ℕ) → IfSome (course.take n).number (λ number. number ≤ greatest)
@@ -101,6 +107,10 @@ pub record TakesTell (course : Course) : Type 0 where
   pub sums : (n : ℕ) (name : List ℕ) (bucket : TakenBucket) → bucket_in name (course.take n).buckets ≡ Some bucket
       → (bucket.sum.0 ≡ (due_bucket course n name).total) × (bucket.newest.0 ≡ newest (upto (course.op n) (course.original n name)))
   pub rows : (n : ℕ) (held : Holding) (rows : List Shown) → AreTold (taken_names (course.take n)) → HoldsTaken course n held → ShowsLatest held rows → rows ≡ course.due n
+  pub priority : (n m : ℕ) (name : List ℕ) (early late : TakenBucket) → n ≤ m → bucket_in name (course.take n).buckets ≡ Some early → bucket_in name (course.take m).buckets ≡ Some late
+      → early.priority ≡ late.priority
+  pub early : (n priority : ℕ) (held : Holding) (rows : List Shown) → AreTold (taken_names (course.take n)) → HoldsUpto course n priority held → ShowsLatest held rows
+      → rows ≡ course.early n priority
 
 -- what was committed stays
 abbrev pub Stays : Course → Type 0

@@ -1,11 +1,12 @@
 -- What one asker reads at each place of a history. A place n stands for the history's first n events; past the end readings stand still.
-use Rattle.std.specs.Prelude.{ℕ, suc, Bool, if◌then◌else◌, List, [], ◌∷◌, ◌++◌, take, map, Option, Some, None, is_some, bytes_eq}
+use Rattle.std.specs.Prelude.{ℕ, suc, Bool, if◌then◌else◌, List, [], ◌∷◌, ◌++◌, take, map, Option, Some, None, is_some, bytes_eq, false, nat_le}
 use Rattle.ps_data.specs.declared.ids.Position.{Position}
 use Rattle.ps_bucket_log.specs.declared.ops.Op.{Op}
 use Rattle.ps_bucket_log.specs.declared.batches.Batch.{Batch}
 use Rattle.ps_rows.specs.declared.changes.Transaction.{Transaction}
 use Rattle.ps_rows.specs.declared.shown.Shown.{Shown}
 use Rattle.ps_queries.specs.declared.askers.Asker.{Asker}
+use Rattle.ps_definitions.specs.Priorities.{definitions_upto}
 use Rattle.ps_definitions.specs.RuleSets.{RuleSet}
 use Rattle.ps_granted.specs.Latest as grants
 use Rattle.ps_store.specs.declared.events.Event.{Event}
@@ -31,6 +32,8 @@ pub record Course : Type 0 where
   pub batch : ℕ → List ℕ → ℕ → ℕ → Batch
   -- the rows that are due to the asker at the checkpoint's position, by the rules in force
   pub due : ℕ → List Shown
+  -- those that are due by the rules' definitions of at most a priority
+  pub early : ℕ → ℕ → List Shown
   -- what the asker's client may have uploaded before each of its write checkpoints in the whole history
   pub uploads : List Upload
 
@@ -56,6 +59,7 @@ course_of rules history asker = record {
   take = λ n. take_of (ledger_at rules history n) asker;
   batch = λ n bucket after upto. batch_of (ledger_at rules history n) bucket after upto;
   due = λ n. grants.due (ledger_at rules history n).force.rules.definitions asker (ledger_at rules history n).fed (ledger_at rules history n).position;
+  early = λ n priority. grants.due (definitions_upto priority (ledger_at rules history n).force.rules.definitions) asker (ledger_at rules history n).fed (ledger_at rules history n).position;
   uploads = uploads_of (ledger_of rules history) asker;
 }
 
@@ -66,3 +70,8 @@ bucket_in name (bucket ∷ buckets) = if bytes_eq name bucket.name then Some buc
 
 abbrev pub is_in : List TakenBucket → List ℕ → Bool
 is_in buckets name = is_some (bucket_in name buckets)
+
+-- whether there is a bucket, of at most a priority
+abbrev pub is_upto : ℕ → Option TakenBucket → Bool
+is_upto priority None = false
+is_upto priority (Some bucket) = nat_le bucket.priority priority

@@ -1,7 +1,9 @@
 -- Generations of buckets: the marks on their names, what is written of each, and what a new one has to take.
-use Rattle.std.specs.Prelude.{ℕ, ◌+◌, Bool, false, true, not, ◌&&◌, ◌||◌, ◌==◌, if◌then◌else◌, nat_lt, nat_le, List, [], ◌∷◌, ◌++◌, Option, Some, None, decimal}
+use Rattle.std.specs.Prelude.{ℕ, ◌+◌, Bool, false, true, not, ◌&&◌, ◌||◌, ◌==◌, if◌then◌else◌, nat_lt, nat_le, List, [], ◌∷◌, ◌++◌, length, drop, Option, Some, None, decimal}
 use Rattle.std.specs.Char.{is_ascii_digit}
 use Rattle.ps_rows.specs.Source.{Key, Version, Source}
+use Rattle.ps_definitions.specs.declared.definitions.Definition.{Definition}
+use Rattle.ps_definitions.specs.Priorities.{priority_of}
 use Rattle.ps_definitions.specs.RuleSets.{RuleSet}
 use Rattle.ps_store.specs.Originals.{Entered, Timed, after, change_ops}
 use Rattle.ps_store.specs.Steps.{Step, marked}
@@ -25,6 +27,10 @@ begins_with (b ∷ mark) (c ∷ text) = b == c && begins_with mark text
 abbrev pub is_of : ℕ → List ℕ → Bool
 is_of number bucket = if nat_le number 1 then not (begins_with_digit bucket) else begins_with (mark_of number) bucket
 
+-- the priority of a bucket behind a mark
+abbrev pub rank_in : List ℕ → List Definition → List ℕ → ℕ
+rank_in mark definitions bucket = priority_of definitions (drop (length mark) bucket)
+
 -- ---- what is written of a generation
 
 -- its number, its rules, what was written by them, and the rows that live by it
@@ -36,6 +42,10 @@ pub record Lane : Type 0 where
 
 abbrev pub fresh_lane : ℕ → RuleSet → Lane
 fresh_lane number rules = record { number = number; rules = rules; steps = []; source = [] }
+
+-- the priority of a bucket of a lane
+abbrev pub rank_of : Lane → List ℕ → ℕ
+rank_of lane bucket = rank_in (mark_of lane.number) lane.rules.definitions bucket
 
 -- the operations of a change that a lane takes next, behind a last id
 abbrev pub lane_next : Lane → ℕ → Timed → List Entered

@@ -7,6 +7,7 @@ use Rattle.ps_rows.specs.declared.changes.Transaction.{Transaction}
 use Rattle.ps_rows.specs.declared.shown.Shown.{Shown}
 use Rattle.ps_rows.specs.Source.{Source, source_at}
 use Rattle.ps_queries.specs.declared.askers.Asker.{Asker}
+use Rattle.ps_definitions.specs.declared.definitions.Definition.{Definition}
 use Rattle.ps_definitions.specs.RuleSets.{RuleSet, AreRules}
 use Rattle.ps_granted.specs.Latest.{due}
 use Rattle.ps_granted.specs.Sources.{rows_in}
@@ -17,7 +18,7 @@ use Rattle.ps_store.specs.Standing.{Holding, HoldsStanding}
 use Rattle.ps_store.specs.Steps.{StepsRise}
 use Rattle.ps_store.specs.Latest.{ShowsLatest}
 use Rattle.ps_store.specs.Laws.{Rises, HaveNumbers, AreSqlVectors}
-use Rattle.ps_store.specs.StepLaws.{HoldsLaneBuckets, transactions_upto}
+use Rattle.ps_store.specs.StepLaws.{AreSomeOf, HoldsLaneBuckets, transactions_upto}
 use Rattle.ps_store.specs.Generations.{mark_of, is_of, Lane}
 use Rattle.ps_store.specs.Histories.{has_deploy}
 use Rattle.ps_bucket_log.specs.Batches as logs
@@ -148,14 +149,15 @@ abbrev pub ReadersHoldCommitted : Type 0
 ReadersHoldCommitted = (rules : RuleSet) (history : List Event) → AreRules rules → HaveNumbers rules.definitions → IsLegal rules history
     → HoldsStanding (force_of rules history).rules.definitions (checkpoint_source rules history) (held_in (force_of rules history).number (checkpoint_held rules history))
 
--- the rows of a client that holds what readers hold of an asker's buckets in the generation in force are those that are due to the asker at
--- the checkpoint's position, by the rules in force
+-- the rows of a client that holds what readers hold of an asker's buckets of some definitions of the rules in force are those that are due to the
+-- asker at the checkpoint's position, by these definitions
 abbrev pub CommittedRowsAreDue : Type 0
-CommittedRowsAreDue = (rules : RuleSet) (history : List Event) (asker : Asker) (kept : Holding) (rows : List Shown) → AreRules rules → HaveNumbers rules.definitions → IsLegal rules history
-    → AreSqlVectors (force_of rules history).rules.definitions asker (rows_in (checkpoint_source rules history))
-    → HoldsLaneBuckets (mark_of (force_of rules history).number) (force_of rules history).rules.definitions asker (rows_in (checkpoint_source rules history)) (checkpoint_held rules history) kept
+CommittedRowsAreDue = (rules : RuleSet) (history : List Event) (some : List Definition) (asker : Asker) (kept : Holding) (rows : List Shown)
+    → AreRules rules → HaveNumbers rules.definitions → IsLegal rules history
+    → AreSomeOf some (force_of rules history).rules.definitions → AreSqlVectors some asker (rows_in (checkpoint_source rules history))
+    → HoldsLaneBuckets (mark_of (force_of rules history).number) some asker (rows_in (checkpoint_source rules history)) (checkpoint_held rules history) kept
     → ShowsLatest kept rows
-    → rows ≡ due (force_of rules history).rules.definitions asker (ledger_of rules history).fed (ledger_of rules history).position
+    → rows ≡ due some asker (ledger_of rules history).fed (ledger_of rules history).position
 
 -- with no new rules names have no mark, what is read of a bucket is what its log has, and all buckets are of the generation in force
 pub record ReadsOne (rules : RuleSet) (l : Ledger) : Type 0 where

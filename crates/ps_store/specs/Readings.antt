@@ -21,7 +21,7 @@ use Rattle.ps_bucket_log.specs.declared.takes.Taken.{Taken}
 use Rattle.ps_bucket_log.specs.declared.takes.TakenBucket.{TakenBucket}
 use Rattle.ps_store.specs.declared.readings.TakeFault.{TakeFault}
 use Rattle.ps_store.specs.declared.readings.TakeFault.TheVariants.{TooManyBuckets, Memory}
-use Rattle.ps_store.specs.Generations.{mark_of, Coming, Ending, Switched, Abandoned, ending_of}
+use Rattle.ps_store.specs.Generations.{mark_of, rank_of, Coming, Ending, Switched, Abandoned, ending_of}
 use Rattle.ps_store.specs.Ledgers.{Ledger, head_of, heads_in, ledger_of}
 use Rattle.ps_store.specs.Limits.{greatest}
 use Rattle.ps_store.specs.StepLaws.{transactions_upto}
@@ -44,13 +44,14 @@ IsToldBehindMark name = (number : ℕ) (plain : List ℕ) → number ≤ greates
 abbrev pub AreTold : List (List ℕ) → Type 0
 AreTold names = AllByRecursion IsToldBehindMark names
 
--- a bucket: the sum, the count and the newest id of its log up to an op
-abbrev pub bucket_upto : ℕ → List ℕ → List Op → TakenBucket
-bucket_upto op name log = record {
+-- a bucket: the sum, the count and the newest id of its log up to an op, and its priority
+abbrev pub bucket_upto : ℕ → (List ℕ → ℕ) → List ℕ → List Op → TakenBucket
+bucket_upto op rank name log = record {
   name = name;
   sum = record { 0 = sum_of (upto op log) };
   count = length (upto op log);
   newest = record { 0 = newest (upto op log) };
+  priority = rank name;
 }
 
 -- the heads of the write checkpoints of an asker's client, in order: its number n has the nth of them; none where it has no client
@@ -69,7 +70,7 @@ take_of l asker = record {
   closed = l.closed;
   last_op = record { 0 = l.op };
   number = covered_of l asker;
-  buckets = map (λ (name : List ℕ). bucket_upto l.op name (l.log name)) (names_of l asker);
+  buckets = map (λ (name : List ℕ). bucket_upto l.op (rank_of l.force) name (l.log name)) (names_of l asker);
 }
 
 -- the names of what was taken

@@ -1,5 +1,5 @@
 -- The laws of original operations, over steps.
-use Rattle.std.specs.Prelude.{◌≡◌, ◌≢◌, ℕ, ◌≤◌, List, [], ◌++◌, filter, length, nat_le, take, None}
+use Rattle.std.specs.Prelude.{◌≡◌, ◌≢◌, ℕ, ◌≤◌, List, [], ◌++◌, filter, length, nat_le, take, Contains, None}
 use Rattle.ps_bucket_log.specs.declared.ops.Key.{Key}
 use Rattle.ps_rows.specs.declared.changes.Transaction.{Transaction}
 use Rattle.ps_rows.specs.declared.shown.Shown.{Shown}
@@ -27,13 +27,19 @@ pub record HoldsLaneBuckets (mark : List ℕ) (definitions : List Definition) (a
   pub own : (bucket : List ℕ) → IsBucketOf definitions asker rows bucket → (key : Key) → kept (mark ++ bucket) key ≡ held (mark ++ bucket) key
   pub only : (bucket : List ℕ) (key : Key) → kept bucket key ≢ None → (name : List ℕ) × (bucket ≡ mark ++ name) × IsBucketOf definitions asker rows name
 
--- the rows of a client that holds what readers hold of an asker's buckets are those of the copies that are granted over the source that steps leave
+-- some of the definitions
+abbrev pub AreSomeOf : List Definition → List Definition → Type 0
+AreSomeOf some all = (definition : Definition) → Contains some definition → Contains all definition
+
+-- the rows of a client that holds what readers hold of an asker's buckets of some definitions are those of the copies that these grant over the
+-- source that steps leave, whatever other definitions the steps were written by
 abbrev pub LatestRowsAreGranted : Type 0
-LatestRowsAreGranted = (mark : List ℕ) (rules : RuleSet) (steps : List Step) (asker : Asker) (kept : Holding) (rows : List Shown) → AreRules rules → HaveNumbers rules.definitions → StepsRise rules.definitions [] steps
-    → AreSqlVectors rules.definitions asker (rows_in (source_after [] steps))
-    → HoldsLaneBuckets mark rules.definitions asker (rows_in (source_after [] steps)) (held_of (lane_ops mark rules.definitions [] steps)) kept
+LatestRowsAreGranted = (mark : List ℕ) (rules : RuleSet) (some : List Definition) (steps : List Step) (asker : Asker) (kept : Holding) (rows : List Shown)
+    → AreRules rules → HaveNumbers rules.definitions → StepsRise rules.definitions [] steps
+    → AreSomeOf some rules.definitions → AreSqlVectors some asker (rows_in (source_after [] steps))
+    → HoldsLaneBuckets mark some asker (rows_in (source_after [] steps)) (held_of (lane_ops mark rules.definitions [] steps)) kept
     → ShowsLatest kept rows
-    → rows ≡ rows_of (granted rules.definitions asker (source_after [] steps))
+    → rows ≡ rows_of (granted some asker (source_after [] steps))
 
 -- the transactions up to a position
 abbrev pub transactions_upto : ℕ → List Transaction → List Transaction

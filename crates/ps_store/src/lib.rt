@@ -17,6 +17,7 @@ mod marking;
 mod numbers;
 mod places;
 mod plans;
+mod ranks;
 mod reach;
 mod readings;
 mod rooms;

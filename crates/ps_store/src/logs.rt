@@ -12,11 +12,13 @@ ghost use Rattle.std.specs.Ordering.{nat_cmp};
 ghost use Rattle.ps_compact.specs.Compaction.{report_of};
 ghost use Rattle.ps_segments.specs.Depths.{IsDepth};
 ghost use Rattle.ps_store.specs.Costs.{AreNoLonger};
+ghost use Rattle.ps_store.specs.Generations.{rank_in};
 ghost use Rattle.ps_store.specs.Ledgers.{compacted_in};
 ghost use Rattle.ps_store.specs.Readings.{bucket_upto};
 ghost use Rattle.ps_store.specs.StoreLogs.{wanted, log_at, room_at, HasRoom, has_ops, first_ops, AreRising, Continue};
 
 use crate::entered::Entered;
+use crate::ranks::Ranks;
 use ps_bucket_log::uncounted::count_upto;
 use ps_bucket_log::{Batch, Log, Op, Steps, TakenBucket};
 use ps_checksum::Sum;
@@ -57,15 +59,23 @@ impl Logs {
     }
 
     // What a bucket's log has up to an id. It is looked for three times.
-    fn bucket<L: Ledger>(&self, name: Text, upto: OpId, steps: &mut Steps<L>) -> TakenBucket
+    fn bucket<L: Ledger>(
+        &self,
+        name: Text,
+        upto: OpId,
+        ranks: &Ranks,
+        steps: &mut Steps<L>,
+    ) -> TakenBucket
         ensures cost { (n d : ℕ) → IsDepth n d → length (log_at self.now name) ≤ n → steps.new ≤ steps.old + 3 * (2 * d + 4) }
-        ensures value { result ≡ bucket_upto upto.0 name (log_at self.now name) }
+        ensures value { result ≡ bucket_upto upto.0 (rank_in ranks.now.mark.now ranks.now.rules.now.definitions) name (log_at self.now name) }
     {
+        let priority = ranks.of(&name);
         match self.logs.get(&name) {
             Some(log) => TakenBucket {
                 sum: log.sum_upto(upto, steps),
                 count: log.count_upto(upto, steps),
                 newest: log.newest_upto(upto, steps),
+                priority,
                 name,
             },
             None => TakenBucket {
@@ -73,6 +83,7 @@ impl Logs {
                 sum: Sum(0),
                 count: 0,
                 newest: OpId(0),
+                priority,
             },
         }
     }
@@ -83,14 +94,15 @@ impl Logs {
         alloc: Global,
         names: Items<Text>,
         upto: OpId,
+        ranks: &Ranks,
         steps: &mut Steps<L>,
     ) -> Result<Items<TakenBucket>, Memory>
         ensures cost { (n d : ℕ) → IsDepth n d → AreNoLonger (log_at self.now) n names → steps.new ≤ steps.old + length names * (3 * (2 * d + 4)) }
-        ensures value { IfOk result (λ buckets. buckets ≡ map (λ (name : List ℕ). bucket_upto upto.0 name (log_at self.now name)) names) }
+        ensures value { IfOk result (λ buckets. buckets ≡ map (λ (name : List ℕ). bucket_upto upto.0 (rank_in ranks.now.mark.now ranks.now.rules.now.definitions) name (log_at self.now name)) names) }
     {
         let mut buckets = Items::new(alloc);
         'names: for name in names.into_vec() {
-            buckets.push(self.bucket(name, upto, steps))?;
+            buckets.push(self.bucket(name, upto, ranks, steps))?;
         }
         Ok(buckets)
     }

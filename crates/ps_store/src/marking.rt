@@ -1,6 +1,6 @@
 //! The marks on the names of buckets, which tell their generation.
 
-ghost use Rattle.std.specs.Prelude.{◌≡◌, ◌++◌, IfOk};
+ghost use Rattle.std.specs.Prelude.{◌≡◌, ◌++◌, drop, length, IfOk};
 ghost use Rattle.ps_store.specs.Generations.{mark_of, begins_with};
 ghost use Rattle.ps_store.specs.Steps.{marked as marked_ops};
 ghost use Rattle.ps_store.specs.StoreGenerations.{digits_in, mark_in, prefixed};
@@ -47,6 +47,19 @@ pub(crate) fn with_mark(
         all.push(marked(alloc, mark, name)?)?;
     }
     Ok(all)
+}
+
+/// What stands in a name behind a mark, by the mark's length.
+#[tactic(auto, using(crate::proofs::MarksIn::nothing_behind))]
+pub(crate) fn behind_mark<'a>(mark: &Text, name: &'a Text) -> &'a [u8]
+    ensures { result.now ≡ drop (length mark.now) name.now }
+{
+    let skipped = mark.bytes().len();
+    let bytes = name.bytes();
+    if skipped > bytes.len() {
+        return &[];
+    }
+    &bytes[skipped..]
 }
 
 /// Operations in buckets whose names have a mark. Where there is no mark, it takes no memory.

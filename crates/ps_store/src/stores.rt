@@ -28,6 +28,7 @@ use crate::logs::Logs;
 use crate::marking::{has_mark, mark_buckets, with_mark};
 use crate::numbers::have_numbers;
 use crate::plans::{Plan, Planned, Refusal, plan_run, tidy_all};
+use crate::ranks::Ranks;
 use crate::readings::TakeFault;
 use crate::rooms::rooms_for;
 use crate::rows::{Rows, make_places};
@@ -404,9 +405,10 @@ impl Store {
             → TakesFew (ledger_of fixed.rules history) asker.now steps.old steps.new }
     {
         notes_of_changes_are_the_source();
+        let rules = self.by().rules();
         let names = self
             .index
-            .rows_for(alloc, self.by().rules(), asker, self.checkpoint.position)?;
+            .rows_for(alloc, rules, asker, self.checkpoint.position)?;
         let count = names.len();
         if count > self.fixed.limits().buckets as usize {
             return Err(TakeFault::TooManyBuckets {
@@ -415,7 +417,11 @@ impl Store {
         }
         let names = with_mark(alloc, &self.generations.mark, names)?;
         let number = self.covered(asker);
-        let buckets = self.logs.buckets(alloc, names, self.checkpoint.op, steps)?;
+        let mark = &self.generations.mark;
+        let ranks = Ranks { rules, mark };
+        let buckets = self
+            .logs
+            .buckets(alloc, names, self.checkpoint.op, &ranks, steps)?;
         Ok(Taken {
             position: self.checkpoint.position,
             head: self.head,

@@ -21,7 +21,7 @@ returns c = λ rules transactions asker kept rows are numbers rises sql holds la
     let buckets =
     subst (λ (s : Source). HoldsLaneBuckets [] rules.definitions asker (rows_in s) (held_of (ops_from rules.definitions [] 1 (timed transactions))) held) (sym source)
     (lane_buckets rules.definitions asker _ (held_of (ops_from rules.definitions [] 1 (timed transactions))) kept holds) in
-    c.latest_rows_are_granted.ensures [] rules steps asker held rows are numbers (all_rise rules.definitions transactions rises)
+    c.latest_rows_are_granted.ensures [] rules rules.definitions steps asker held rows are numbers (all_rise rules.definitions transactions rises) (λ d is. is)
     (subst (λ (s : Source). AreSqlVectors rules.definitions asker (rows_in s)) (sym source) sql)
     (subst (λ (es : List Entered). HoldsLaneBuckets [] rules.definitions asker (rows_in (source_after [] steps)) (held_of es) held) (sym (all_ops rules.definitions transactions)) buckets)
     (shows kept rows latest)

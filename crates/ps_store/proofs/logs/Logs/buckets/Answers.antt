@@ -1,5 +1,6 @@
 use Rattle.std.proofs.Common.{ℕ, ◌+◌, ◌*◌, List, [], ◌∷◌, ◌++◌, map, length, sym, ap, ◌∙◌, append_assoc}
 use Rattle.ps_bucket_log.specs.declared.takes.TakenBucket.{TakenBucket}
+use Rattle.ps_store.specs.Generations.{rank_in}
 use Rattle.ps_store.specs.Readings.{bucket_upto}
 use Rattle.ps_store.specs.StoreLogs.{log_at}
 use Rattle.ps_store.proofs.Looking.{one_more, at_most}
@@ -7,7 +8,7 @@ use Rattle.ps_store.proofs.logs.Logs.buckets.Goals as goal
 
 pub names-preserved : goal.names-preserved
 names-preserved g c =
-    let f : List ℕ → TakenBucket = λ name. bucket_upto c.args.upto.0 name (log_at c.args.self.now name) in
+    let f : List ℕ → TakenBucket = λ name. bucket_upto c.args.upto.0 (rank_in c.args.ranks.now.mark.now c.args.ranks.now.rules.now.definitions) name (log_at c.args.self.now name) in
     let rest : List (List ℕ) = c.next.new.self.rest.items in
     let s = c.in-Some.ensures.steps in
     record {
