@@ -1,8 +1,8 @@
 -- What is read at the places of a legal history is lawful.
-use Rattle.std.proofs.Common.{◌≡◌, ◌≢◌, ℕ, zero, suc, ◌+◌, ◌-◌, ◌≤◌, ◌<◌, Bool, true, false, Option, Some, None, List, [], ◌∷◌, ◌++◌, refl, sym, ap, ◌∙◌, subst, length, map, flat_map, take, fold, arith, append_assoc, inl, inr}
+use Rattle.std.proofs.Common.{◌≡◌, ◌≢◌, ℕ, zero, suc, ◌+◌, ◌-◌, ◌≤◌, ◌<◌, Bool, true, false, Option, Some, None, List, [], ◌∷◌, ◌++◌, refl, sym, ap, ◌∙◌, subst, length, map, flat_map, take, drop, fold, arith, append_assoc, inl, inr}
 use Rattle.std.specs.Prelude.{bytes_eq, nat_le, if◌then◌else◌, is_some, IfSome, Contains, slice_get}
 use Rattle.std.specs.List.{AllByRecursion}
-use Rattle.std.proofs.lemmas.Bool.{and_from}
+use Rattle.std.proofs.lemmas.Bool.{and_from, cases_Bool}
 use Rattle.std.proofs.lemmas.List.Sums.{fold-append}
 use Rattle.std.specs.List.Sorted.{IsStrictlySortedBy}
 use Rattle.std.specs.Ordering.{nat_cmp, ordering_then}
@@ -23,6 +23,7 @@ use Rattle.ps_write_cp.specs.Laws.{HasHead, IsGreatestReached, CoveredIsGreatest
 use Rattle.ps_write_cp.specs.Numbers.{Made, is_of, covered}
 use Rattle.ps_queries.specs.declared.askers.Asker.{Asker}
 use Rattle.ps_definitions.specs.declared.definitions.Definition.{Definition}
+use Rattle.ps_definitions.specs.Priorities.{is_bucket_of, priority_of, definitions_upto, BucketsHavePriorities}
 use Rattle.ps_definitions.specs.RuleSets.{RuleSet, AreRules, IsSound as IsSoundDefinition}
 use Rattle.ps_queries.specs.Vectors.{SourceRow}
 use Rattle.ps_definitions.specs.Vectors.{parameter_vectors}
@@ -32,16 +33,16 @@ use Rattle.ps_params.specs.Names.{definition_names, bucket_names}
 use Rattle.ps_store.specs.declared.events.Event.{Event}
 use Rattle.ps_store.specs.declared.events.Event.TheVariants.{WriteCheckpoint}
 use Rattle.ps_bucket_log.specs.declared.takes.TakenBucket.{TakenBucket}
-use Rattle.ps_store.specs.CourseLaws.{IsLawful, AreApart, HoldsTaken, PlacesStay, EndsAreWhole}
-use Rattle.ps_store.specs.Courses.{Course, Upload, ledger_at, course_of, upload_of, uploads_from, uploads_of, bucket_in, is_in}
+use Rattle.ps_store.specs.CourseLaws.{IsLawful, AreApart, HoldsTaken, HoldsUpto, PlacesStay, EndsAreWhole}
+use Rattle.ps_store.specs.Courses.{Course, Upload, ledger_at, course_of, upload_of, uploads_from, uploads_of, bucket_in, is_in, is_upto}
 use Rattle.ps_store.specs.Laws.{Rises as RisesFrom, HaveNumbers, AreSqlVectors, IsBucketOf}
 use Rattle.ps_store.specs.Ledgers.{Ledger, fresh, head_of, heads_in, last_number, made_by, ledger_after, ledger_of, IsLegalFrom, IsLegal}
 use Rattle.ps_store.specs.Limits.{greatest}
 use Rattle.ps_store.specs.LedgerLaws.{checkpoint_held, checkpoint_source, CommittedRowsAreDue}
-use Rattle.ps_store.specs.Generations.{mark_of, is_of as in_generation, Ending, Ended, Switched, Abandoned, ending_of}
+use Rattle.ps_store.specs.Generations.{mark_of, is_of as in_generation, rank_in, rank_of, Ending, Ended, Switched, Abandoned, ending_of}
 use Rattle.ps_store.specs.Readings.{with_mark, names_of, IsToldBehindMark, AreTold, bucket_upto, covered_of, heads_for}
 use Rattle.ps_store.specs.Standing.{Holding}
-use Rattle.ps_store.specs.StepLaws.{HoldsLaneBuckets, transactions_upto}
+use Rattle.ps_store.specs.StepLaws.{AreSomeOf, HoldsLaneBuckets, transactions_upto}
 use Rattle.ps_store.proofs.Committed.{asked_of}
 use Rattle.ps_store.proofs.Endings.{well_at, GoesOn, goes_at, lives, ends_later}
 use Rattle.ps_store.proofs.Going.{IsWell, well_fresh}
@@ -51,6 +52,7 @@ use Rattle.ps_store.proofs.Fronts.{is_le, le_from}
 use Rattle.ps_data.proofs.Members.{Has, has_left, has_right, has_cases, has_filter, from_filter, has_map, from_map, has_flat, from_flat, has_contains, contains_has}
 use Rattle.ps_data.proofs.Rising.{Rises, rises_sorted, never}
 use Rattle.ps_definitions.proofs.NamesInOrder.{name_cmp, in_order_rises, has_in_order, from_in_order}
+use Rattle.ps_store.proofs.Marks.{one_generation}
 use Rattle.ps_store.proofs.Reaching.{take_append, head_above}
 use Rattle.ps_store.proofs.Telling.{tells_reach}
 
@@ -67,33 +69,33 @@ pub ends_are_whole : EndsAreWhole
 ends_are_whole rules history = ap (ledger_of rules) (take_whole history)
 
 -- what is taken of buckets has their names
-names_kept : (op : ℕ) (log : List ℕ → List Op) (names : List (List ℕ)) → names ≡ map (λ (b : TakenBucket). b.name) (map (λ (name : List ℕ). bucket_upto op name (log name)) names)
-names_kept op log [] = refl
-names_kept op log (name ∷ names) = ap (λ ns. name ∷ ns) (names_kept op log names)
+names_kept : (op : ℕ) (rank : List ℕ → ℕ) (log : List ℕ → List Op) (names : List (List ℕ)) → names ≡ map (λ (b : TakenBucket). b.name) (map (λ (name : List ℕ). bucket_upto op rank name (log name)) names)
+names_kept op rank log [] = refl
+names_kept op rank log (name ∷ names) = ap (λ ns. name ∷ ns) (names_kept op rank log names)
 
 -- ---- the buckets of names
 
-module _ (op : ℕ) (log : List ℕ → List Op) where
+module _ (op : ℕ) (rank : List ℕ → ℕ) (log : List ℕ → List Op) where
   abbrev told : List (List ℕ) → List TakenBucket
-  told names = map (λ (name : List ℕ). bucket_upto op name (log name)) names
+  told names = map (λ (name : List ℕ). bucket_upto op rank name (log name)) names
 
   -- the bucket of a name is what its log has
-  told_by : (names : List (List ℕ)) (name : List ℕ) (bucket : TakenBucket) → bucket_in name (told names) ≡ Some bucket → bucket ≡ bucket_upto op name (log name)
+  told_by : (names : List (List ℕ)) (name : List ℕ) (bucket : TakenBucket) → bucket_in name (told names) ≡ Some bucket → bucket ≡ bucket_upto op rank name (log name)
   told_by [] name bucket is = absurd (cc)
   told_by (q ∷ names) name bucket is = by (bytes_eq name q) refl is (told_by names name bucket)
     where
-      by : (b : Bool) → bytes_eq name q ≡ b → (if b then Some (bucket_upto op q (log q)) else bucket_in name (told names)) ≡ Some bucket
-          → (bucket_in name (told names) ≡ Some bucket → bucket ≡ bucket_upto op name (log name)) → bucket ≡ bucket_upto op name (log name)
+      by : (b : Bool) → bytes_eq name q ≡ b → (if b then Some (bucket_upto op rank q (log q)) else bucket_in name (told names)) ≡ Some bucket
+          → (bucket_in name (told names) ≡ Some bucket → bucket ≡ bucket_upto op rank name (log name)) → bucket ≡ bucket_upto op rank name (log name)
       by true e is rest =
-          let same : bucket_upto op q (log q) ≡ bucket = cc in
-          sym same ∙ ap (λ (n : List ℕ). bucket_upto op n (log n)) (sym ((bytes_eq-Decides name q).0 e))
+          let same : bucket_upto op rank q (log q) ≡ bucket = cc in
+          sym same ∙ ap (λ (n : List ℕ). bucket_upto op rank n (log n)) (sym ((bytes_eq-Decides name q).0 e))
       by false e is rest = rest is
 
   is_told : (names : List (List ℕ)) (name : List ℕ) → Has names name → is_in (told names) name ≡ true
   is_told [] name h = absurd h
   is_told (q ∷ names) name h = by (bytes_eq name q) refl (is_told names name)
     where
-      by : (b : Bool) → bytes_eq name q ≡ b → (Has names name → is_in (told names) name ≡ true) → is_some (if b then Some (bucket_upto op q (log q)) else bucket_in name (told names)) ≡ true
+      by : (b : Bool) → bytes_eq name q ≡ b → (Has names name → is_in (told names) name ≡ true) → is_some (if b then Some (bucket_upto op rank q (log q)) else bucket_in name (told names)) ≡ true
       by true e rest = refl
       by false e rest = elim h [ inl same ↦ absurd (let there : bytes_eq name q ≡ true = (bytes_eq-Decides name q).1 (sym same) in cc) | inr t ↦ rest t ]
 
@@ -101,11 +103,11 @@ module _ (op : ℕ) (log : List ℕ → List Op) where
   from_told [] name h = absurd (cc)
   from_told (q ∷ names) name h = by (bytes_eq name q) refl h (from_told names name)
     where
-      by : (b : Bool) → bytes_eq name q ≡ b → is_some (if b then Some (bucket_upto op q (log q)) else bucket_in name (told names)) ≡ true → (is_in (told names) name ≡ true → Has names name) → Has (q ∷ names) name
+      by : (b : Bool) → bytes_eq name q ≡ b → is_some (if b then Some (bucket_upto op rank q (log q)) else bucket_in name (told names)) ≡ true → (is_in (told names) name ≡ true → Has names name) → Has (q ∷ names) name
       by true e is rest = inl (sym ((bytes_eq-Decides name q).0 e))
       by false e is rest = inr (rest is)
 
-  all_told : (names : List (List ℕ)) → AllByRecursion (λ (b : TakenBucket). b ≡ bucket_upto op b.name (log b.name)) (told names)
+  all_told : (names : List (List ℕ)) → AllByRecursion (λ (b : TakenBucket). b ≡ bucket_upto op rank b.name (log b.name)) (told names)
   all_told [] = tt
   all_told (name ∷ names) = (refl, all_told names)
 
@@ -113,7 +115,7 @@ module _ (op : ℕ) (log : List ℕ → List Op) where
   none_told name [] h = refl
   none_told name (q ∷ names) h = by (bytes_eq name q) refl (none_told name names (λ y i. h y (inr i)))
     where
-      by : (b : Bool) → bytes_eq name q ≡ b → bucket_in name (told names) ≡ None → (if b then Some (bucket_upto op q (log q)) else bucket_in name (told names)) ≡ None
+      by : (b : Bool) → bytes_eq name q ≡ b → bucket_in name (told names) ≡ None → (if b then Some (bucket_upto op rank q (log q)) else bucket_in name (told names)) ≡ None
       by true e rest = absurd (never name_cmp nat_list_cmp_total exact_bytes name (subst (λ (z : List ℕ). slice_cmp nat_cmp name z ≡ Less) (sym ((bytes_eq-Decides name q).0 e)) (h q (inl refl))))
       by false e rest = rest
 
@@ -167,6 +169,31 @@ marked_rise number (x ∷ xs) h = (
   marked_rise number xs h.1,
 )
 
+-- ---- definitions up to a priority
+
+drop_front : (mark text : List ℕ) → drop (length mark) (mark ++ text) ≡ text
+drop_front [] text = refl
+drop_front (b ∷ mark) text = drop_front mark text
+
+some_upto : (priority : ℕ) (definitions : List Definition) → AreSomeOf (definitions_upto priority definitions) definitions
+some_upto priority definitions d is =
+    has_contains definitions d (from_filter (λ (x : Definition). nat_le x.priority priority) definitions d (contains_has (definitions_upto priority definitions) d is)).0
+
+upto_urgent : (priority : ℕ) (definitions : List Definition) (d : Definition) → Contains (definitions_upto priority definitions) d → nat_le d.priority priority ≡ true
+upto_urgent priority definitions d is = (from_filter (λ (x : Definition). nat_le x.priority priority) definitions d (contains_has (definitions_upto priority definitions) d is)).1
+
+is_upto_some : (priority : ℕ) (definitions : List Definition) (d : Definition) → Contains definitions d → nat_le d.priority priority ≡ true → Contains (definitions_upto priority definitions) d
+is_upto_some priority definitions d is low =
+    has_contains (definitions_upto priority definitions) d (has_filter (λ (x : Definition). nat_le x.priority priority) definitions d (contains_has definitions d is) low)
+
+priority_low : (definitions : List Definition) (bucket : List ℕ) → AllByRecursion IsSoundDefinition definitions → priority_of definitions bucket ≤ 3
+priority_low [] bucket sound = omega arith
+priority_low (d ∷ ds) bucket sound = by (is_bucket_of d.name bucket) (priority_low ds bucket sound.1)
+  where
+    by : (b : Bool) → priority_of ds bucket ≤ 3 → (if b then d.priority else priority_of ds bucket) ≤ 3
+    by true rest = sound.0.urgent
+    by false rest = rest
+
 -- ---- a course
 
 pub record StoreLaws : Type 0 where
@@ -177,6 +204,7 @@ pub record StoreLaws : Type 0 where
   pub rows : CommittedRowsAreDue
   pub greatest : CoveredIsGreatest
   pub before : CoversAllBefore
+  pub priorities : BucketsHavePriorities
 
 -- ---- what was uploaded
 
@@ -339,7 +367,7 @@ module _ (laws : StoreLaws) (rules : RuleSet) (history : List Event) (asker : As
       (asked_of (place n).force.rules (place n).force.number asker (rows n) r.0 (well n).force.are (is_bucket (place n).force.rules.definitions asker (rows n) r.0 r.1))
 
   taken_of : (n : ℕ) (name : List ℕ) (bucket : TakenBucket) → bucket_in name (course.take n).buckets ≡ Some bucket → in_generation (place n).force.number name ≡ true
-  taken_of n name bucket is = named_of n name (from_told (place n).op (place n).log (names_of (place n) asker) name (ap is_some is))
+  taken_of n name bucket is = named_of n name (from_told (place n).op (rank_of (place n).force) (place n).log (names_of (place n) asker) name (ap is_some is))
 
   within_op : (n : ℕ) (name : List ℕ) → EndsWithin (place n).op (ending_of name (place n).ended)
   within_op n name = find (place n).ended (sound n).ended
@@ -379,7 +407,7 @@ module _ (laws : StoreLaws) (rules : RuleSet) (history : List Event) (asker : As
     newest_low = λ n name. omega (arith, (sound n).newest_low name, last_low n);
     sums = λ n name. (sound n).sums name;
     takes = λ n name bucket is.
-        let told_is = told_by (place n).op (place n).log (names_of (place n) asker) name bucket is in
+        let told_is = told_by (place n).op (rank_of (place n).force) (place n).log (names_of (place n) asker) name bucket is in
         record {
           lives = lives (place n) name (well n) (taken_of n name bucket is);
           sum = ap (λ (b : TakenBucket). b.sum.0) told_is;
@@ -399,7 +427,7 @@ module _ (laws : StoreLaws) (rules : RuleSet) (history : List Event) (asker : As
     holds_buckets : HoldsLaneBuckets (mark_of number) definitions asker (rows n) (checkpoint_held rules (take n history)) held
     holds_buckets = record {
       own = λ bucket is key. holds.own (mark_of number ++ bucket)
-          (is_told (place n).op (place n).log (names_of (place n) asker) (mark_of number ++ bucket)
+          (is_told (place n).op (rank_of (place n).force) (place n).log (names_of (place n) asker) (mark_of number ++ bucket)
           (has_map (λ (name : List ℕ). mark_of number ++ name) (plain_names n) bucket (has_bucket definitions asker (rows n) bucket is))) key;
       only = λ bucket key some. by bucket key some (is_in (course.take n).buckets bucket) refl;
     }
@@ -407,34 +435,105 @@ module _ (laws : StoreLaws) (rules : RuleSet) (history : List Event) (asker : As
         by : (bucket : List ℕ) (key : Key) → held bucket key ≢ None → (b : Bool) → is_in (course.take n).buckets bucket ≡ b
             → (name : List ℕ) × (bucket ≡ mark_of number ++ name) × IsBucketOf definitions asker (rows n) name
         by bucket key some true is =
-            let r = from_map (λ (name : List ℕ). mark_of number ++ name) (plain_names n) bucket (from_told (place n).op (place n).log (names_of (place n) asker) bucket is) in
+            let r = from_map (λ (name : List ℕ). mark_of number ++ name) (plain_names n) bucket (from_told (place n).op (rank_of (place n).force) (place n).log (names_of (place n) asker) bucket is) in
             (r.0, sym r.2, is_bucket definitions asker (rows n) r.0 r.1)
         by bucket key some false is = absurd (some (holds.only bucket is key))
 
   names_rise : (n : ℕ) → Rises name_cmp (names_of (place n) asker)
   names_rise n = marked_rise (place n).force.number (plain_names n) (in_order_rises (flat_map (definition_names asker (rows n)) (place n).force.rules.definitions))
 
-  keeps_takes : KeepsTakes course (λ n bucket. (place n).log bucket)
+  -- ---- priorities
+
+  -- the bucket that was taken has the priority of its name
+  ranked : (n : ℕ) (name : List ℕ) (bucket : TakenBucket) → bucket_in name (course.take n).buckets ≡ Some bucket → bucket.priority ≡ rank_of (place n).force name
+  ranked n name bucket is = ap (λ (b : TakenBucket). b.priority) (told_by (place n).op (rank_of (place n).force) (place n).log (names_of (place n) asker) name bucket is)
+
+  one_priority : (n m : ℕ) (name : List ℕ) (early late : TakenBucket) → n ≤ m → bucket_in name (course.take n).buckets ≡ Some early → bucket_in name (course.take m).buckets ≡ Some late
+      → early.priority ≡ late.priority
+  one_priority n m name early late low first second =
+      let w = well n in
+      let v = well m in
+      let number : (place n).force.number ≡ (place m).force.number = one_generation (place n).force.number (place m).force.number name w.force.from_one v.force.from_one
+      (omega (arith, w.force.begun_is, w.begun_low)) (omega (arith, v.force.begun_is, v.begun_low)) (taken_of n name early first) (taken_of m name late second) in
+      let rules_are : (place n).force.rules ≡ (place m).force.rules = (goes n m low).rules number in
+      ranked n name early first ∙ (λ i. rank_in (mark_of (number i)) ((rules_are i).definitions) name) ∙ sym (ranked m name late second)
+
+  -- the priority of an asker's bucket is its definition's
+  plain_rank : (n : ℕ) (bucket : List ℕ) (b : IsBucketOf (place n).force.rules.definitions asker (rows n) bucket) → rank_of (place n).force (mark_of (place n).force.number ++ bucket) ≡ b.0.priority
+  plain_rank n bucket b =
+      ap (priority_of (place n).force.rules.definitions) (drop_front (mark_of (place n).force.number) bucket ∙ b.4)
+      ∙ laws.priorities (place n).force.rules b.0 b.1 (well n).force.are b.2
+
+  module _ (n priority : ℕ) (held : Holding) (holds : HoldsUpto course n priority held) where
+    abbrev lane_number : ℕ
+    lane_number = (place n).force.number
+
+    abbrev lane_definitions : List Definition
+    lane_definitions = (place n).force.rules.definitions
+
+    abbrev found : List ℕ → Option TakenBucket
+    found name = bucket_in name (course.take n).buckets
+
+    holds_early : HoldsLaneBuckets (mark_of lane_number) (definitions_upto priority lane_definitions) asker (rows n) (checkpoint_held rules (take n history)) held
+    holds_early = record {
+      own = λ bucket is key.
+          let wide : IsBucketOf lane_definitions asker (rows n) bucket = (is.0, is.1, some_upto priority lane_definitions is.0 is.2, is.3, is.4) in
+          let urgent : nat_le is.0.priority priority ≡ true = upto_urgent priority lane_definitions is.0 is.2 in
+          let there : is_in (course.take n).buckets (mark_of lane_number ++ bucket) ≡ true = is_told (place n).op (rank_of (place n).force) (place n).log (names_of (place n) asker) (mark_of lane_number ++ bucket)
+          (has_map (λ (name : List ℕ). mark_of lane_number ++ name) (plain_names n) bucket (has_bucket lane_definitions asker (rows n) bucket wide)) in
+          holds.own (mark_of lane_number ++ bucket) (within (mark_of lane_number ++ bucket) (plain_rank n bucket wide) urgent (found (mark_of lane_number ++ bucket)) refl there) key;
+      only = λ bucket key some. by bucket key some (found bucket) refl;
+    }
+      where
+        within : (name : List ℕ) {p : ℕ} → rank_of (place n).force name ≡ p → nat_le p priority ≡ true → (o : Option TakenBucket) → found name ≡ o → is_some o ≡ true → is_upto priority (found name) ≡ true
+        within name rank urgent None is there = absurd (cc)
+        within name rank urgent (Some b) is there =
+            ap (is_upto priority) is ∙ ap (λ (p : ℕ). nat_le p priority) (ranked n name b is ∙ rank) ∙ urgent
+
+        by : (bucket : List ℕ) (key : Key) → held bucket key ≢ None → (o : Option TakenBucket) → found bucket ≡ o
+            → (name : List ℕ) × (bucket ≡ mark_of lane_number ++ name) × IsBucketOf (definitions_upto priority lane_definitions) asker (rows n) name
+        by bucket key some None is = absurd (some (holds.only bucket (ap (is_upto priority) is) key))
+        by bucket key some (Some b) is =
+            let r = from_map (λ (name : List ℕ). mark_of lane_number ++ name) (plain_names n) bucket
+            (from_told (place n).op (rank_of (place n).force) (place n).log (names_of (place n) asker) bucket (ap is_some is)) in
+            let wide : IsBucketOf lane_definitions asker (rows n) r.0 = is_bucket lane_definitions asker (rows n) r.0 r.1 in
+            let rank : b.priority ≡ wide.0.priority = ranked n bucket b is ∙ ap (rank_of (place n).force) (sym r.2) ∙ plain_rank n r.0 wide in
+            elim (cases_Bool (nat_le b.priority priority)) [
+              | inl low ↦ (r.0, sym r.2, (wide.0, wide.1, is_upto_some priority lane_definitions wide.0 wide.2 (ap (λ (p : ℕ). nat_le p priority) (sym rank) ∙ low), wide.3, wide.4))
+              | inr high ↦ absurd (some (holds.only bucket (ap (is_upto priority) is ∙ high) key))
+            ]
+
+  keeps_takes : KeepsTakes course (λ n. rank_of (place n).force) (λ n bucket. (place n).log bucket)
   keeps_takes = record {
     op = λ n. refl;
     number = λ n. numbers_low laws.grows laws.stands laws.buckets.itself laws.compacted rules history asker n legal laws.greatest;
-    rise = λ n. subst (IsStrictlySortedBy (slice_cmp nat_cmp)) (names_kept (place n).op (place n).log (names_of (place n) asker)) (rises_sorted name_cmp (names_of (place n) asker) (names_rise n));
-    apart = λ n. told_apart (place n).op (place n).log (names_of (place n) asker) (names_rise n);
+    rise = λ n. subst (IsStrictlySortedBy (slice_cmp nat_cmp)) (names_kept (place n).op (rank_of (place n).force) (place n).log (names_of (place n) asker)) (rises_sorted name_cmp (names_of (place n) asker) (names_rise n));
+    apart = λ n. told_apart (place n).op (rank_of (place n).force) (place n).log (names_of (place n) asker) (names_rise n);
     position = λ n m low. (goes n m low).position;
     position_low = λ n. (tells_reach rules (take n history) (legal_place n)).checkpoint.fed;
     head_low = λ n. head_at (take n history) (fresh rules) (legal_place n) (omega arith);
-    taken = λ n. all_told (place n).op (place n).log (names_of (place n) asker);
+    taken = λ n. all_told (place n).op (rank_of (place n).force) (place n).log (names_of (place n) asker);
     rows = λ n held shown told holds shows.
         let w = well n in
         let wide : AreSqlVectors (place n).force.rules.definitions asker (rows n) =
         vectors_told (place n).force.rules.definitions asker (rows n) (place n).force.number (omega (arith, w.force.begun_is, w.begun_low)) w.force.are.sound
-        (subst AreTold (sym (names_kept (place n).op (place n).log (names_of (place n) asker))) told) in
-        laws.rows rules (take n history) asker held shown are numbers (legal_place n) wide (holds_buckets n held holds) shows;
+        (subst AreTold (sym (names_kept (place n).op (rank_of (place n).force) (place n).log (names_of (place n) asker))) told) in
+        laws.rows rules (take n history) (place n).force.rules.definitions asker held shown are numbers (legal_place n) (λ d is. is) wide (holds_buckets n held holds) shows;
+    rank_low = λ n name. priority_low (place n).force.rules.definitions (drop (length (mark_of (place n).force.number)) name) (well n).force.are.sound;
+    priority = one_priority;
+    early = λ n priority held shown told holds shows.
+        let w = well n in
+        let wide : AreSqlVectors (place n).force.rules.definitions asker (rows n) =
+        vectors_told (place n).force.rules.definitions asker (rows n) (place n).force.number (omega (arith, w.force.begun_is, w.begun_low)) w.force.are.sound
+        (subst AreTold (sym (names_kept (place n).op (rank_of (place n).force) (place n).log (names_of (place n) asker))) told) in
+        let some : AreSomeOf (definitions_upto priority (place n).force.rules.definitions) (place n).force.rules.definitions = some_upto priority (place n).force.rules.definitions in
+        laws.rows rules (take n history) (definitions_upto priority (place n).force.rules.definitions) asker held shown are numbers (legal_place n) some
+        (λ d values i j. wide d values (some d i) j) (holds_early n priority held holds) shows;
     covers = λ n upload is. uploads_covered laws.grows laws.stands laws.buckets.itself laws.compacted rules history asker n legal laws.greatest laws.before upload is;
   }
 
   pub course_lawful : IsLawful course
-  course_lawful = lawful laws.buckets course (λ n bucket. (place n).log bucket) (λ n bucket. (place n).level bucket) ending keeps_logs keeps_takes
+  course_lawful = lawful laws.buckets course (λ n bucket. (place n).log bucket) (λ n bucket. (place n).level bucket) ending keeps_logs (λ n. rank_of (place n).force) keeps_takes
 
 module _ (grows : GrowsLater) (stands : StandsLater) (itself : StandsForItself) (compacts : CompactedStands) (rules : RuleSet) (front back : List Event) (asker : Asker) (client : List ℕ) where
   abbrev early : Ledger

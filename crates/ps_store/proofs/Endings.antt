@@ -44,18 +44,20 @@ pub record GoesOn (old new : Ledger) : Type 0 where
   pub last : old.last ≤ new.last
   pub position : old.position ≤ new.position
   pub force : old.force.number ≤ new.force.number
+  pub rules : old.force.number ≡ new.force.number → old.force.rules ≡ new.force.rules
   pub more : List Ended
   pub is : new.ended ≡ old.ended ++ more
   pub later : (e : Ended) → Has more e → LaterEnd old.last old.force.number e.lane.number e.ending
 
 goes_same : (l : Ledger) → GoesOn l l
-goes_same l = record { last = omega arith; position = omega arith; force = omega arith; more = []; is = sym (append-nil l.ended); later = λ e has. absurd has }
+goes_same l = record { last = omega arith; position = omega arith; force = omega arith; rules = λ same. refl; more = []; is = sym (append-nil l.ended); later = λ e has. absurd has }
 
 goes_then : (a b c : Ledger) → GoesOn a b → GoesOn b c → GoesOn a c
 goes_then a b c first second = record {
   last = omega (arith, first.last, second.last);
   position = omega (arith, first.position, second.position);
   force = omega (arith, first.force, second.force);
+  rules = λ same. first.rules (omega (arith, same, first.force, second.force)) ∙ second.rules (omega (arith, same, first.force, second.force));
   more = first.more ++ second.more;
   is = second.is ∙ ap (λ (es : List Ended). es ++ second.more) first.is ∙ append_assoc a.ended first.more second.more;
   later = λ e has. elim (has_cases first.more second.more e has) [
@@ -65,7 +67,7 @@ goes_then a b c first second = record {
 }
 
 goes_write : (l : Ledger) (t : Timed) → GoesOn l (write_next l t)
-goes_write l t = record { last = omega arith; position = omega arith; force = omega arith; more = []; is = sym (append-nil l.ended); later = λ e has. absurd has }
+goes_write l t = record { last = omega arith; position = omega arith; force = omega arith; rules = λ same. refl; more = []; is = sym (append-nil l.ended); later = λ e has. absurd has }
 
 goes_writes : (ts : List Timed) (l : Ledger) → GoesOn l (fold write_next l ts)
 goes_writes [] l = goes_same l
@@ -73,20 +75,20 @@ goes_writes (t ∷ ts) l = goes_then l (write_next l t) (fold write_next (write_
 
 goes_built : (o : Option Coming) (t : Timed) (l : Ledger) → GoesOn l (build_with o t l)
 goes_built None t l = goes_same l
-goes_built (Some c) t l = record { last = omega arith; position = omega arith; force = omega arith; more = []; is = sym (append-nil l.ended); later = λ e has. absurd has }
+goes_built (Some c) t l = record { last = omega arith; position = omega arith; force = omega arith; rules = λ same. refl; more = []; is = sym (append-nil l.ended); later = λ e has. absurd has }
 
 goes_builds : (ts : List Timed) (l : Ledger) → GoesOn l (fold build_next l ts)
 goes_builds [] l = goes_same l
 goes_builds (t ∷ ts) l = goes_then l (build_next l t) (fold build_next (build_next l t) ts) (goes_built l.building t l) (goes_builds ts (build_next l t))
 
 goes_event : (l : Ledger) (e : Event) → CanCome l e → IsWell l → GoesOn l (ledger_after l e)
-goes_event l (Feed t) can h = record { last = omega arith; position = omega arith; force = omega arith; more = []; is = sym (append-nil l.ended); later = λ e has. absurd has }
-goes_event l Close can h = record { last = omega arith; position = omega arith; force = omega arith; more = []; is = sym (append-nil l.ended); later = λ e has. absurd has }
+goes_event l (Feed t) can h = record { last = omega arith; position = omega arith; force = omega arith; rules = λ same. refl; more = []; is = sym (append-nil l.ended); later = λ e has. absurd has }
+goes_event l Close can h = record { last = omega arith; position = omega arith; force = omega arith; rules = λ same. refl; more = []; is = sym (append-nil l.ended); later = λ e has. absurd has }
 goes_event l (Write n) can h = goes_writes (take n (unwritten l)) l
-goes_event l Commit can h = record { last = omega arith; position = omega (arith, can); force = omega arith; more = []; is = sym (append-nil l.ended); later = λ e has. absurd has }
-goes_event l (Compact bucket) can h = record { last = omega arith; position = omega arith; force = omega arith; more = []; is = sym (append-nil l.ended); later = λ e has. absurd has }
-goes_event l (WriteCheckpoint user client) can h = record { last = omega arith; position = omega arith; force = omega arith; more = []; is = sym (append-nil l.ended); later = λ e has. absurd has }
-goes_event l (Deploy rules) can h = record { last = omega arith; position = omega arith; force = omega arith; more = []; is = sym (append-nil l.ended); later = λ e has. absurd has }
+goes_event l Commit can h = record { last = omega arith; position = omega (arith, can); force = omega arith; rules = λ same. refl; more = []; is = sym (append-nil l.ended); later = λ e has. absurd has }
+goes_event l (Compact bucket) can h = record { last = omega arith; position = omega arith; force = omega arith; rules = λ same. refl; more = []; is = sym (append-nil l.ended); later = λ e has. absurd has }
+goes_event l (WriteCheckpoint user client) can h = record { last = omega arith; position = omega arith; force = omega arith; rules = λ same. refl; more = []; is = sym (append-nil l.ended); later = λ e has. absurd has }
+goes_event l (Deploy rules) can h = record { last = omega arith; position = omega arith; force = omega arith; rules = λ same. refl; more = []; is = sym (append-nil l.ended); later = λ e has. absurd has }
 goes_event l (Build n) can h = goes_builds (take n (queue_in l.building)) l
 goes_event l Switch can h = by l.building h.coming
   where
@@ -96,6 +98,7 @@ goes_event l Switch can h = by l.building h.coming
       last = omega arith;
       position = h.behind;
       force = omega (arith, k.2);
+      rules = λ same. absurd (omega (arith, same, k.2));
       more = (record { lane = l.force; ending = Switched (l.last + 1) }) ∷ [];
       is = refl;
       later = λ e has. elim has [
@@ -111,6 +114,7 @@ goes_event l Abandon can h = by l.building h.coming
       last = omega arith;
       position = omega arith;
       force = omega arith;
+      rules = λ same. refl;
       more = (record { lane = c.lane; ending = Abandoned }) ∷ [];
       is = refl;
       later = λ e has. elim has [

@@ -18,7 +18,7 @@ use Rattle.ps_bucket_log.specs.Laws.{StaysHonest, StaysHonestUpTo, WholeAtNewest
 use Rattle.ps_rows.specs.declared.shown.Shown.{Shown}
 use Rattle.ps_bucket_log.specs.declared.takes.TakenBucket.{TakenBucket}
 use Rattle.ps_store.specs.Courses.{Course, bucket_in}
-use Rattle.ps_store.specs.CourseLaws.{IsLawful, StayHonest, BatchesKeepHonest, IsLow, Stays, Covers, AreApart, HoldsTaken, due_bucket}
+use Rattle.ps_store.specs.CourseLaws.{IsLawful, StayHonest, BatchesKeepHonest, IsLow, Stays, Covers, AreApart, HoldsTaken, HoldsUpto, due_bucket}
 use Rattle.ps_store.specs.Generations.{Ending, Switched, Abandoned}
 use Rattle.ps_store.specs.Latest.{ShowsLatest}
 use Rattle.ps_store.specs.Limits.{greatest}
@@ -86,7 +86,7 @@ pub record KeepsLogs (course : Course) (log : ℕ → List ℕ → List Op) (lev
   pub ends : (n m : ℕ) (name : List ℕ) (bucket : TakenBucket) → n ≤ m → bucket_in name (course.take n).buckets ≡ Some bucket → EndsPast (course.op n) (ended m name)
 
 -- what is said of takes besides
-pub record KeepsTakes (course : Course) (log : ℕ → List ℕ → List Op) : Type 0 where
+pub record KeepsTakes (course : Course) (rank : ℕ → List ℕ → ℕ) (log : ℕ → List ℕ → List Op) : Type 0 where
   pub op : (n : ℕ) → (course.take n).last_op.0 ≡ course.op n
   pub number : (n : ℕ) → IfSome (course.take n).number (λ number. number ≤ greatest)
   pub rise : (n : ℕ) → IsStrictlySortedBy (slice_cmp nat_cmp) (taken_names (course.take n))
@@ -94,8 +94,13 @@ pub record KeepsTakes (course : Course) (log : ℕ → List ℕ → List Op) : T
   pub position : (n m : ℕ) → n ≤ m → (course.take n).position.0 ≤ (course.take m).position.0
   pub position_low : (n : ℕ) → (course.take n).position.0 ≤ (course.take n).head.0
   pub head_low : (n : ℕ) → (course.take n).head.0 ≤ greatest
-  pub taken : (n : ℕ) → AllByRecursion (λ (b : TakenBucket). b ≡ bucket_upto (course.op n) b.name (log n b.name)) (course.take n).buckets
+  pub taken : (n : ℕ) → AllByRecursion (λ (b : TakenBucket). b ≡ bucket_upto (course.op n) (rank n) b.name (log n b.name)) (course.take n).buckets
+  pub rank_low : (n : ℕ) (name : List ℕ) → rank n name ≤ 3
   pub rows : (n : ℕ) (held : Holding) (rows : List Shown) → AreTold (taken_names (course.take n)) → HoldsTaken course n held → ShowsLatest held rows → rows ≡ course.due n
+  pub priority : (n m : ℕ) (name : List ℕ) (early late : TakenBucket) → n ≤ m → bucket_in name (course.take n).buckets ≡ Some early → bucket_in name (course.take m).buckets ≡ Some late
+      → early.priority ≡ late.priority
+  pub early : (n priority : ℕ) (held : Holding) (rows : List Shown) → AreTold (taken_names (course.take n)) → HoldsUpto course n priority held → ShowsLatest held rows
+      → rows ≡ course.early n priority
   pub covers : Covers course
 
 -- ---- ids
@@ -313,8 +318,8 @@ module _ (laws : BucketLaws) (course : Course) (log : ℕ → List ℕ → List 
         every_front _ (course.batch n name low high).ops left (subst AreSummed split (every_filtered _ _ (past low (log n name)) (every_filtered _ _ (log n name) (log_summed n name))))
   ]
 
-  taken_low : (n : ℕ) (bucket : TakenBucket) → bucket ≡ bucket_upto (course.op n) bucket.name (log n bucket.name) → IsLow bucket
-  taken_low n bucket is =
+  taken_low : (rank : List ℕ → ℕ) → ((name : List ℕ) → rank name ≤ 3) → (n : ℕ) (bucket : TakenBucket) → bucket ≡ bucket_upto (course.op n) rank bucket.name (log n bucket.name) → IsLow bucket
+  taken_low rank low n bucket is =
       let own : List Op = log n bucket.name in
       let few : length (upto (course.op n) own) ≤ length own = few_filtered _ own in
       let below : 0 + length own ≤ place_after 0 own = rising_below 0 own (log_is n bucket.name).rising in
@@ -324,11 +329,13 @@ module _ (laws : BucketLaws) (course : Course) (log : ℕ → List ℕ → List 
         sum_low = subst (λ (n : ℕ). n < 2 ^ 32) (sym (ap (λ (b : TakenBucket). b.sum.0) is)) (mod-lt _ (omega arith));
         count_low = omega (arith, few, below, last, ap (λ (b : TakenBucket). b.count) is);
         newest_low = omega (arith, newest_is, ap (λ (b : TakenBucket). b.newest.0) is);
+        urgent = omega (arith, low bucket.name, ap (λ (b : TakenBucket). b.priority) is);
       }
 
-  all_low : (n : ℕ) (buckets : List TakenBucket) → AllByRecursion (λ (b : TakenBucket). b ≡ bucket_upto (course.op n) b.name (log n b.name)) buckets → AllByRecursion IsLow buckets
-  all_low n [] are = tt
-  all_low n (bucket ∷ buckets) are = (taken_low n bucket are.0, all_low n buckets are.1)
+  all_low : (rank : List ℕ → ℕ) → ((name : List ℕ) → rank name ≤ 3) → (n : ℕ) (buckets : List TakenBucket)
+      → AllByRecursion (λ (b : TakenBucket). b ≡ bucket_upto (course.op n) rank b.name (log n b.name)) buckets → AllByRecursion IsLow buckets
+  all_low rank low n [] are = tt
+  all_low rank low n (bucket ∷ buckets) are = (taken_low rank low n bucket are.0, all_low rank low n buckets are.1)
 
   -- ---- what a take tells
   sums_are : (n : ℕ) (name : List ℕ) (bucket : TakenBucket) → bucket_in name (course.take n).buckets ≡ Some bucket
@@ -353,8 +360,8 @@ module _ (laws : BucketLaws) (course : Course) (log : ℕ → List ℕ → List 
       by (Some (Switched id)) past_op = rw (lt-ltb (course.op n) id past_op) (inr (λ no. cc))
       by (Some Abandoned) past_op = absurd past_op
 
-  pub lawful : KeepsTakes course log → IsLawful course
-  lawful takes = record {
+  pub lawful : (rank : ℕ → List ℕ → ℕ) → KeepsTakes course rank log → IsLawful course
+  lawful rank takes = record {
     later = stay_honest;
     batches = batches_keep;
     climb = record {
@@ -368,11 +375,11 @@ module _ (laws : BucketLaws) (course : Course) (log : ℕ → List ℕ → List 
       reads_on = reads_on;
       position_low = takes.position_low;
       head_low = takes.head_low;
-      buckets_low = λ n. all_low n (course.take n).buckets (takes.taken n);
+      buckets_low = λ n. all_low (rank n) (takes.rank_low n) n (course.take n).buckets (takes.taken n);
       ids_low = ids_are_low;
       sums_low = sums_are_low;
     };
-    takes = record { op = takes.op; number = takes.number; rise = takes.rise; apart = takes.apart; sums = sums_are; rows = takes.rows };
+    takes = record { op = takes.op; number = takes.number; rise = takes.rise; apart = takes.apart; sums = sums_are; rows = takes.rows; priority = takes.priority; early = takes.early };
     stays = stays;
     covers = takes.covers;
   }

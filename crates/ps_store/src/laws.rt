@@ -18,7 +18,7 @@ use ps_bucket_log::{
     standing_logs_stay_standing, totals_are_sums, what_is_written_later_adds_nothing,
 };
 use ps_compact::compacted_logs_stand;
-use ps_definitions::names_are_distinct;
+use ps_definitions::{buckets_have_priorities, names_are_distinct};
 use ps_granted::latest_rows_are_unique;
 use ps_params::notes_of_changes_are_the_source;
 use ps_queries::same_for_every_asker;
@@ -180,6 +180,7 @@ pub fn courses_are_lawful()
     committed_rows_are_due();
     covered_is_the_greatest();
     covers_all_before();
+    buckets_have_priorities();
 }
 
 /// A law: what comes later in a history changes nothing that is read at a place before it; and what is read at its end is that
@@ -210,6 +211,7 @@ pub fn uploads_are_covered()
     compacted_logs_stand();
     covered_is_the_greatest();
     covers_all_before();
+    buckets_have_priorities();
 }
 
 /// A law, by example: new rules come while two rows stand and a third change is written; the new generation is built in two batches

@@ -26,4 +26,5 @@ returns c rules history asker are numbers legal = course_lawful (record {
   rows = c.committed_rows_are_due.ensures;
   greatest = c.covered_is_the_greatest.ensures;
   before = c.covers_all_before.ensures;
+  priorities = c.buckets_have_priorities.ensures.buckets;
 }) rules history asker are numbers legal
