@@ -1,12 +1,12 @@
 -- A session: what it makes of what it takes and reads, one checkpoint after another.
-use Rattle.std.specs.Prelude.{◌≡◌, ℕ, false, if◌then◌else◌, List, [], ◌∷◌, Option, Some, None, unwrap_or, bytes_eq, nat_lt, IsTrue}
+use Rattle.std.specs.Prelude.{◌≡◌, ℕ, false, max, if◌then◌else◌, List, [], ◌∷◌, Option, Some, None, is_some, unwrap_or, bytes_eq, nat_lt, IsTrue}
 use Rattle.std.specs.Option.{option_or}
 use Rattle.ps_data.specs.declared.ids.OpId.{OpId}
 use Rattle.ps_bucket_log.specs.declared.batches.Batch.{Batch}
 use Rattle.ps_bucket_log.specs.Ops.{place_after}
 use Rattle.ps_lines.specs.declared.bodies.Known.{Known}
 use Rattle.ps_lines.specs.declared.lines.Line.{Line}
-use Rattle.ps_lines.specs.declared.lines.Line.TheVariants.{Data, Complete as CompleteLine}
+use Rattle.ps_lines.specs.declared.lines.Line.TheVariants.{Data, Partial, Complete as CompleteLine}
 use Rattle.ps_bucket_log.specs.declared.takes.Taken.{Taken}
 use Rattle.ps_bucket_log.specs.declared.takes.TakenBucket.{TakenBucket}
 use Rattle.ps_session.specs.declared.actions.Action.{Action}
@@ -21,6 +21,8 @@ pub record SessionState : Type 0 where
   -- the id up to which each bucket is sent, 0 for what is no bucket of the last taken value
   pub places : List ℕ → ℕ
   pub last : Taken
+  -- the greatest priority that was told to be complete since then
+  pub told : Option ℕ
   pub phase : Phase
 
 -- a session after a step, and the line that the step gives, if any
@@ -50,23 +52,55 @@ nothing_taken = record {
 }
 
 abbrev pub begin : (List ℕ → ℕ) → SessionState
-begin requested = record { requested = requested; places = λ name. 0; last = nothing_taken; phase = Start }
+begin requested = record { requested = requested; places = λ name. 0; last = nothing_taken; told = None; phase = Start }
 
 -- ---- what comes next
 
--- the first bucket that is not sent up to its newest operation
+-- the more urgent one, and of one priority the first
+abbrev pub sooner : TakenBucket → Option TakenBucket → TakenBucket
+sooner bucket None = bucket
+sooner bucket (Some other) = if nat_lt other.priority bucket.priority then other else bucket
+
+-- of the buckets that are not sent up to their newest operations the first of the least priority
 abbrev pub first_behind : (List ℕ → ℕ) → List TakenBucket → Option TakenBucket
 first_behind places [] = None
 first_behind places (bucket ∷ buckets) =
-    if nat_lt (places bucket.name) bucket.newest.0 then Some bucket else first_behind places buckets
+    if nat_lt (places bucket.name) bucket.newest.0 then Some (sooner bucket (first_behind places buckets)) else first_behind places buckets
 
 abbrev pub behind : SessionState → Option TakenBucket
 behind s = first_behind s.places s.last.buckets
 
--- a bucket that is behind is read from its place up to the checkpoint's op
+-- the greater of two priorities
+abbrev pub greater : ℕ → Option ℕ → Option ℕ
+greater priority None = Some priority
+greater priority (Some other) = Some (max priority other)
+
+-- the greatest priority of a bucket below a priority
+abbrev pub greatest_below : ℕ → List TakenBucket → Option ℕ
+greatest_below limit [] = None
+greatest_below limit (bucket ∷ buckets) =
+    if nat_lt bucket.priority limit then greater bucket.priority (greatest_below limit buckets) else greatest_below limit buckets
+
+-- what is above all that was told
+abbrev pub untold : Option ℕ → Option ℕ → Option ℕ
+untold told None = None
+untold None (Some priority) = Some priority
+untold (Some told) (Some priority) = if nat_lt told priority then Some priority else None
+
+-- the part that is due: no bucket of at most its priority is behind, and it was not told
+abbrev pub part_in : Option TakenBucket → SessionState → Option ℕ
+part_in None s = None
+part_in (Some bucket) s = untold s.told (greatest_below bucket.priority s.last.buckets)
+
+abbrev pub part_of : SessionState → Option ℕ
+part_of s = part_in (behind s) s
+
+-- where no part is due, a bucket that is behind is read from its place up to the checkpoint's op
 abbrev pub download_action : Option TakenBucket → SessionState → Action
 download_action None s = Complete
-download_action (Some bucket) s = Read (place_in bucket.name s.last.buckets) (record { 0 = s.places bucket.name }) s.last.last_op
+download_action (Some bucket) s =
+    if is_some (part_in (Some bucket) s) then Complete
+    else Read (place_in bucket.name s.last.buckets) (record { 0 = s.places bucket.name }) s.last.last_op
 
 abbrev pub action_in : Phase → SessionState → Action
 action_in Start s = Take
@@ -105,13 +139,13 @@ places_in buckets places name = if is_in buckets name then places name else 0
 
 abbrev pub with_checkpoint : SessionState → Taken → Turned
 with_checkpoint s t = record {
-  session = record { requested = s.requested; places = places_in t.buckets s.requested; last = t; phase = Download };
+  session = record { requested = s.requested; places = places_in t.buckets s.requested; last = t; told = None; phase = Download };
   line = Some (first_line t);
 }
 
 abbrev pub with_diff : SessionState → Taken → Turned
 with_diff s t = record {
-  session = record { requested = s.requested; places = places_in t.buckets s.places; last = t; phase = Download };
+  session = record { requested = s.requested; places = places_in t.buckets s.places; last = t; told = None; phase = Download };
   line = Some (diff_line s.last t);
 }
 
@@ -119,7 +153,7 @@ abbrev pub took_in : Phase → SessionState → Taken → Turned
 took_in Start s t = with_checkpoint s t
 took_in Download s t = record { session = s; line = None }
 took_in Void s t = with_diff s t
-took_in Done s t = if is_unchanged s.last t then (record { session = record s { last = t; phase = Done }; line = None }) else with_diff s t
+took_in Done s t = if is_unchanged s.last t then (record { session = record s { last = t; told = None; phase = Done }; line = None }) else with_diff s t
 
 abbrev pub took : SessionState → Taken → Turned
 took s t = took_in s.phase s t
@@ -153,10 +187,15 @@ read_of (Some bucket) s batch = read_in batch.passed s bucket.name batch
 abbrev pub read : SessionState → Batch → Turned
 read s batch = read_of (behind s) s batch
 
--- ---- the end of a checkpoint
+-- ---- the end of a checkpoint, or of a part of it
 
+abbrev pub finished_in : Option ℕ → SessionState → Turned
+finished_in None s = record { session = record s { phase = Done }; line = Some (CompleteLine s.last.last_op) }
+finished_in (Some priority) s = record { session = record s { told = Some priority }; line = Some (Partial s.last.last_op priority) }
+
+-- the part that is due is told, else the checkpoint is complete
 abbrev pub finished : SessionState → Turned
-finished s = record { session = record s { phase = Done }; line = Some (CompleteLine s.last.last_op) }
+finished s = finished_in (part_of s) s
 
 -- the last checkpoint is completed, nothing more is fed, and the checkpoint is at the head
 pub record IsDrained (s : SessionState) : Type 0 where

@@ -1,5 +1,6 @@
 -- What a taken value says of buckets, and what is told of it after another.
-use Rattle.std.specs.Prelude.{ℕ, suc, Bool, true, false, ◌&&◌, ◌==◌, not, if◌then◌else◌, List, [], ◌∷◌, map, filter, Option, Some, None, is_some, bytes_eq}
+use Rattle.std.specs.Prelude.{ℕ, suc, ◌≤◌, Bool, true, false, ◌&&◌, ◌==◌, not, if◌then◌else◌, List, [], ◌∷◌, map, filter, Option, Some, None, is_some, bytes_eq}
+use Rattle.std.specs.List.{AllByRecursion}
 use Rattle.std.specs.List.Sorted.{IsStrictlySortedBy}
 use Rattle.std.specs.Cmp.Lexicographic.{slice_cmp}
 use Rattle.std.specs.Ordering.{nat_cmp}
@@ -17,6 +18,10 @@ name_of bucket = bucket.name
 -- the names rise in the order of their bytes, so none stands twice
 abbrev pub NamesRise : List TakenBucket → Type 0
 NamesRise buckets = IsStrictlySortedBy (slice_cmp nat_cmp) (map name_of buckets)
+
+-- priorities are from 0, the most urgent, to 3
+abbrev pub AreUrgent : List TakenBucket → Type 0
+AreUrgent buckets = AllByRecursion (λ (bucket : TakenBucket). bucket.priority ≤ 3) buckets
 
 -- the bucket of a name
 abbrev pub bucket_in : List ℕ → List TakenBucket → Option TakenBucket
@@ -61,18 +66,14 @@ abbrev pub is_as : Option TakenBucket → TakenBucket → Bool
 is_as None bucket = false
 is_as (Some old) bucket = same_bucket old bucket
 
--- the buckets that are new, or differ in their sum, their count or their newest id
+-- the buckets that are new, or differ in their sum, their count or their newest id; a bucket has one priority for good
 abbrev pub updated : List TakenBucket → List TakenBucket → List TakenBucket
 updated old new = filter (λ (bucket : TakenBucket). not (is_as (bucket_in bucket.name old) bucket)) new
 
 -- ---- the lines that tell it
 
--- the priority of every bucket
-abbrev pub usual_priority : ℕ
-usual_priority = 3
-
 abbrev pub entry_of : TakenBucket → Entry
-entry_of bucket = record { bucket = bucket.name; sum = bucket.sum; count = bucket.count; priority = usual_priority }
+entry_of bucket = record { bucket = bucket.name; sum = bucket.sum; count = bucket.count; priority = bucket.priority }
 
 abbrev pub first_line : Taken → Line
 first_line taken = Checkpoint taken.last_op taken.number (map entry_of taken.buckets)

@@ -14,7 +14,7 @@ pub enum Action {
         /// The id up to which it is read: the checkpoint's op.
         upto: OpId,
     },
-    /// All of the checkpoint is sent: `finish` tells it.
+    /// All of the checkpoint is sent, or all of its buckets of at most a priority: `finish` tells it.
     Complete,
     /// The checkpoint is completed. Another is to be taken once the store has changed, for `took`.
     Wait,

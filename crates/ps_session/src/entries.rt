@@ -8,9 +8,6 @@ use ps_data::{Items, Memory};
 use ps_lines::{Entry, Line};
 use std::alloc::Global;
 
-// The priority of every bucket.
-const USUAL_PRIORITY: u8 = 3;
-
 // What a checkpoint says of a bucket.
 pub fn entry_of(alloc: Global, bucket: &TakenBucket) -> Result<Entry, Memory>
     ensures { IfOk result (λ entry. entry ≡ entry_of bucket.now) }
@@ -19,7 +16,7 @@ pub fn entry_of(alloc: Global, bucket: &TakenBucket) -> Result<Entry, Memory>
         bucket: bucket.name.copy(alloc)?,
         sum: bucket.sum,
         count: bucket.count,
-        priority: USUAL_PRIORITY,
+        priority: bucket.priority,
     })
 }
 

@@ -5,6 +5,7 @@ mod actions;
 mod diffs;
 mod entries;
 mod matches;
+mod orders;
 mod phases;
 mod places;
 mod requests;

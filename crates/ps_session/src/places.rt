@@ -66,17 +66,3 @@ fn place_at(places: &[OpId], found: Option<usize>) -> OpId
         None => OpId(0),
     }
 }
-
-// From a place on, where all before it are sent up to their newest operations, the place of the first that is not.
-pub fn first_behind(buckets: &[TakenBucket], places: &[OpId], from: usize) -> usize
-    requires beside { length places.now ≡ length buckets.now }
-    requires within { from ≤ length buckets.now }
-    ensures { result ≡ from + done_front (drop from buckets.now) (drop from places.now) }
-{
-    'buckets: for at in from..buckets.len() {
-        if places[at].0 < buckets[at].newest.0 {
-            return at;
-        }
-    }
-    buckets.len()
-}

@@ -1,19 +1,20 @@
 //! The session.
 
-ghost use Rattle.std.specs.Prelude.{◌≡◌, ◌≢◌, ◌⊎◌, ◌↔◌, ◌<◌, [], Some, None, IfOk, OnOk, OnErr, IsTrue, option_map, length, slice_set};
+ghost use Rattle.std.specs.Prelude.{◌≡◌, ◌≢◌, ◌⊎◌, ◌↔◌, ◌<◌, [], Some, None, IfOk, OnOk, OnErr, IsTrue, option_map, length, slice_set, get_or};
 ghost use Rattle.ps_session.specs.declared.phases.Phase.TheVariants as phases;
 ghost use Rattle.ps_session.specs.declared.actions.Action.TheVariants as actions;
-ghost use Rattle.ps_session.specs.Takes.{NamesRise, name_of};
-ghost use Rattle.ps_session.specs.Sessions.{IsTaking, IsReading, IsReadAt, IsDrained, nothing_taken, begin, requested_in, behind, next_action, took, with_checkpoint, with_diff, read, phase_after, finished};
+ghost use Rattle.ps_session.specs.Takes.{NamesRise, AreUrgent, name_of};
+ghost use Rattle.ps_session.specs.Sessions.{IsTaking, IsReading, IsReadAt, IsDrained, nothing_taken, begin, requested_in, behind, part_of, download_action, next_action, took, with_checkpoint, with_diff, read, phase_after, finished};
 ghost use Rattle.ps_bucket_log.specs.Ops.{place_after};
-ghost use Rattle.ps_session.specs.Kept.{state_of, done_front};
+ghost use Rattle.ps_session.specs.Kept.{state_of, order_of, done_front};
 
 use crate::actions::Action;
 use crate::diffs::{diff_line, is_unchanged};
 use crate::entries::first_line;
 use crate::matches::matches_among;
+use crate::orders::{first_behind, greatest_below, order_of, priorities_of};
 use crate::phases::Phase;
-use crate::places::{first_behind, kept_places, requested_places};
+use crate::places::{kept_places, requested_places};
 use crate::requests::StreamRequest;
 use ps_bucket_log::{Batch, Op, Taken};
 use ps_data::{Items, Memory, OpId, Position, Text};
@@ -32,8 +33,13 @@ pub struct Session {
     last: Taken,
     // beside the buckets of `last`
     places: Vec<OpId>,
-    // the place of the first bucket that is not sent up to its newest operation: it only goes on, until another
-    // checkpoint begins, so all looks for it take no more time than there are buckets
+    // the greatest priority that was told to be complete since `last`
+    told: Option<u8>,
+    // the places of the buckets of `last` in the order in which they are read, and their priorities, each once
+    order: Vec<usize>,
+    priorities: Vec<u8>,
+    // where in the order the first bucket stands that is not sent up to its newest operation: it only goes on, until
+    // another checkpoint begins, so all looks for it take no more time than there are buckets
     cursor: usize,
 }
 
@@ -46,6 +52,9 @@ impl Drop for Session {
             phase: _phase,
             last: _last,
             places: _places,
+            told: _told,
+            order: _order,
+            priorities: _priorities,
             cursor: _cursor,
         } = self;
     }
@@ -64,9 +73,10 @@ impl Model for Session {
       phase = session.phase;
       last = session.last;
       places = session.places.items;
+      told = session.told;
     } };
 
-    ghost invariant = { λ session. IsKept session.last session.places.items session.cursor };
+    ghost invariant = { λ session. IsKept session.phase session.last session.places.items session.order.items session.priorities.items session.cursor };
 }
 
 // What is taken before the first take.
@@ -116,6 +126,9 @@ impl Session {
             phase: Phase::Start,
             last: nothing_taken(alloc),
             places: Vec::new(alloc),
+            told: None,
+            order: Vec::new(alloc),
+            priorities: Vec::new(alloc),
             cursor: 0,
         }
     }
@@ -134,15 +147,44 @@ impl Session {
     {
         match self.phase {
             Phase::Start | Phase::Void => Action::Take,
-            Phase::Download => match self.last.buckets.get(self.cursor) {
-                Some(_) => Action::Read {
-                    place: self.cursor,
-                    after: self.places[self.cursor],
-                    upto: self.last.last_op,
-                },
-                None => Action::Complete,
-            },
+            Phase::Download => self.download_action(),
             Phase::Done => Action::Wait,
+        }
+    }
+
+    // The place of the bucket that is read next, None where all are sent.
+    fn behind(&self) -> Option<usize> {
+        self.order.get(self.cursor).copied()
+    }
+
+    // The priority of the part that is due: that of the buckets before the one that is behind, where it was not told.
+    fn part(&self) -> Option<u8>
+        ensures { self.now.phase ≡ phases.Download → result ≡ part_of (state_of self.now) }
+    {
+        let place = self.behind()?;
+        let limit = self.last.buckets.get(place)?.priority;
+        let part = greatest_below(self.priorities.as_slice(), limit)?;
+        match self.told {
+            Some(told) if part <= told => None,
+            _ => Some(part),
+        }
+    }
+
+    // What is to be done next while a checkpoint is sent.
+    fn download_action(&self) -> Action
+        requires { self.now.phase ≡ phases.Download }
+        ensures { result ≡ download_action (behind (state_of self.now)) (state_of self.now) }
+    {
+        if self.part().is_some() {
+            return Action::Complete;
+        }
+        match self.behind() {
+            Some(place) => Action::Read {
+                place,
+                after: self.places[place],
+                upto: self.last.last_op,
+            },
+            None => Action::Complete,
         }
     }
 
@@ -155,20 +197,30 @@ impl Session {
     }
 
     // The checkpoint is sent from now on, with these places beside its buckets.
-    fn follow(&mut self, taken: Taken, places: Vec<OpId>)
+    fn follow(&mut self, alloc: Global, taken: Taken, places: Vec<OpId>) -> Result<(), Memory>
         requires rise { NamesRise taken.buckets }
+        requires urgent { AreUrgent taken.buckets }
         requires beside { length places.items ≡ length taken.buckets }
-        ensures { self.new ≡ record self.old { phase = phases.Download; last = taken; places = places.items } }
+        ensures ok { OnOk result (self.new ≡ record self.old { phase = phases.Download; last = taken; places = places.items; told = None }) }
+        ensures err { OnErr result (self.new ≡ self.old) }
     {
-        self.cursor = first_behind(taken.buckets.as_slice(), places.as_slice(), 0);
+        let buckets = taken.buckets.as_slice();
+        let order = order_of(alloc, buckets)?;
+        let priorities = priorities_of(alloc, buckets)?;
+        self.cursor = first_behind(buckets, places.as_slice(), order.as_slice(), 0);
+        self.order = order;
+        self.priorities = priorities;
         self.last = taken;
         self.places = places;
+        self.told = None;
         self.phase = Phase::Download;
+        Ok(())
     }
 
     // The first checkpoint begins.
     fn take_first(&mut self, alloc: Global, taken: Taken) -> Result<Option<Line>, Memory>
-        requires { NamesRise taken.buckets }
+        requires rise { NamesRise taken.buckets }
+        requires urgent { AreUrgent taken.buckets }
         ensures state { OnOk result (state_of self.new ≡ (with_checkpoint (state_of self.old) taken).session) }
         ensures line { IfOk result (λ line. line ≡ (with_checkpoint (state_of self.old) taken).line) }
         ensures err { OnErr result (self.new ≡ self.old) }
@@ -176,13 +228,14 @@ impl Session {
     {
         let places = requested_places(alloc, self.known.as_slice(), taken.buckets.as_slice())?;
         let line = first_line(alloc, &taken)?;
-        self.follow(taken, places);
+        self.follow(alloc, taken, places)?;
         Ok(Some(line))
     }
 
     // Another checkpoint begins, told as what differs from the last.
     fn take_other(&mut self, alloc: Global, taken: Taken) -> Result<Option<Line>, Memory>
-        requires { NamesRise taken.buckets }
+        requires rise { NamesRise taken.buckets }
+        requires urgent { AreUrgent taken.buckets }
         ensures state { OnOk result (state_of self.new ≡ (with_diff (state_of self.old) taken).session) }
         ensures line { IfOk result (λ line. line ≡ (with_diff (state_of self.old) taken).line) }
         ensures err { OnErr result (self.new ≡ self.old) }
@@ -195,16 +248,17 @@ impl Session {
         )?;
         let places = kept_places(alloc, matches.as_slice(), self.places.as_slice())?;
         let line = diff_line(alloc, &self.last, &taken, matches.as_slice())?;
-        self.follow(taken, places);
+        self.follow(alloc, taken, places)?;
         Ok(Some(line))
     }
 
-    /// Takes a checkpoint, whose buckets' names rise, where the action is `Take` or `Wait`. It gives a line that tells
+    /// Takes a checkpoint, whose buckets' names rise and whose priorities are from 0 to 3, where the action is `Take` or `Wait`. It gives a line that tells
     /// the first checkpoint whole, and another as what differs from the last; none where the last is completed and
     /// nothing differs. After `Memory` all is as before.
     pub fn took(&mut self, alloc: Global, taken: Taken) -> Result<Option<Line>, Memory>
         requires action { IsTaking (next_action (state_of self.old)) }
         requires rise { NamesRise taken.buckets }
+        requires urgent { AreUrgent taken.buckets }
         ensures state { OnOk result (state_of self.new ≡ (took (state_of self.old) taken).session) }
         ensures line { IfOk result (λ line. line ≡ (took (state_of self.old) taken).line) }
         ensures err { OnErr result (self.new ≡ self.old) }
@@ -217,6 +271,7 @@ impl Session {
             Phase::Done => {
                 if is_unchanged(&self.last, &taken) {
                     self.last = taken;
+                    self.told = None;
                     Ok(None)
                 } else {
                     self.take_other(alloc, taken)
@@ -254,14 +309,9 @@ impl Session {
         ensures err { OnErr result (self.new ≡ self.old) }
         ensures asker { self.new.asker ≡ self.old.asker }
     {
-        let bucket = self
-            .last
-            .buckets
-            .get(self.cursor)
-            .unwrap()
-            .name
-            .copy(alloc)?;
-        let after = self.places[self.cursor];
+        let place = self.order[self.cursor];
+        let bucket = self.last.buckets.get(place).unwrap().name.copy(alloc)?;
+        let after = self.places[place];
         let Batch {
             ops,
             has_more,
@@ -281,28 +331,40 @@ impl Session {
 
     // The first bucket that is behind is sent up to here.
     fn advance(&mut self, place: OpId, phase: Phase)
-        requires { done_front self.old.last.buckets self.old.places < length self.old.last.buckets }
-        ensures { self.new ≡ record self.old { phase = phase; places = slice_set self.old.places (done_front self.old.last.buckets self.old.places) place } }
+        requires { let order = order_of self.old.last.buckets in done_front order self.old.last.buckets self.old.places < length order }
+        ensures { let order = order_of self.old.last.buckets in
+            let at = get_or order (done_front order self.old.last.buckets self.old.places) 0 in
+            self.new ≡ record self.old { phase = phase; places = slice_set self.old.places at place } }
     {
-        self.places[self.cursor] = place;
+        let at = self.order[self.cursor];
+        self.places[at] = place;
         self.cursor = first_behind(
             self.last.buckets.as_slice(),
             self.places.as_slice(),
+            self.order.as_slice(),
             self.cursor,
         );
         self.phase = phase;
     }
 
-    /// Tells that all of the checkpoint is sent, where the action is `Complete`. Takes no memory.
+    /// Tells that all of the checkpoint is sent, or all of its buckets of at most a priority where others are left, where the
+    /// action is `Complete`. Each such part is told once, and the checkpoint goes on behind it. Takes no memory.
     pub fn finish(&mut self) -> Line
         requires { next_action (state_of self.old) ≡ actions.Complete }
         ensures state { state_of self.new ≡ (finished (state_of self.old)).session }
         ensures line { Some result ≡ (finished (state_of self.old)).line }
         ensures asker { self.new.asker ≡ self.old.asker }
     {
-        self.phase = Phase::Done;
-        Line::Complete {
-            last_op: self.last.last_op,
+        let last_op = self.last.last_op;
+        match self.part() {
+            Some(priority) => {
+                self.told = Some(priority);
+                Line::Partial { last_op, priority }
+            }
+            None => {
+                self.phase = Phase::Done;
+                Line::Complete { last_op }
+            }
         }
     }
 

@@ -1,6 +1,6 @@
 -- Granted copies of one object that have one moment and one number have the same data.
 use Rattle.std.proofs.Common.{◌≡◌, ℕ, Bool, true, false, cond, List, [], ◌∷◌, Option, Some, None, option_map, refl, sym, ap, ◌∙◌, inl, inr}
-use Rattle.std.specs.Prelude.{filter_map}
+use Rattle.std.specs.Prelude.{filter_map, Contains}
 use Rattle.std.specs.List.{cons_option}
 use Rattle.std.proofs.lemmas.Option.{same_Some}
 use Rattle.ps_rows.specs.Source.{Key, Version, Source}
@@ -15,7 +15,7 @@ use Rattle.ps_granted.specs.Grants.{is_granted, copy_with, copy_of, grant_of, gr
 use Rattle.ps_granted.specs.Latest.{object_of, TiesAgree}
 use Rattle.ps_queries.specs.Objects.{object_id, content_of}
 use Rattle.ps_granted.specs.Sources.{row_of, rows_in}
-use Rattle.ps_data.proofs.Members.{Has, from_flat, contains_has}
+use Rattle.ps_data.proofs.Members.{Has, has_flat, from_flat, has_contains, contains_has}
 use Rattle.ps_store.proofs.Queries.{same_place}
 use Rattle.ps_store.proofs.OneMoment.{HaveOneMoment, neither_later}
 
