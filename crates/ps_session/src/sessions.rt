@@ -152,16 +152,11 @@ impl Session {
         }
     }
 
-    // The place of the bucket that is read next, None where all are sent.
-    fn behind(&self) -> Option<usize> {
-        self.order.get(self.cursor).copied()
-    }
-
     // The priority of the part that is due: that of the buckets before the one that is behind, where it was not told.
     fn part(&self) -> Option<u8>
         ensures { self.now.phase ≡ phases.Download → result ≡ part_of (state_of self.now) }
     {
-        let place = self.behind()?;
+        let place = self.order.get(self.cursor).copied()?;
         let limit = self.last.buckets.get(place)?.priority;
         let part = greatest_below(self.priorities.as_slice(), limit)?;
         match self.told {
@@ -178,7 +173,7 @@ impl Session {
         if self.part().is_some() {
             return Action::Complete;
         }
-        match self.behind() {
+        match self.order.get(self.cursor).copied() {
             Some(place) => Action::Read {
                 place,
                 after: self.places[place],
