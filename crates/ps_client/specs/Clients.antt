@@ -6,7 +6,7 @@ use Rattle.ps_bucket_log.specs.Ops.{id_of}
 use Rattle.ps_rows.specs.declared.changes.Change.{Change}
 use Rattle.ps_lines.specs.declared.lines.Entry.{Entry}
 use Rattle.ps_lines.specs.declared.lines.Line.{Line}
-use Rattle.ps_lines.specs.declared.lines.Line.TheVariants.{Checkpoint, Diff, Data, Complete, Expires, Unknown}
+use Rattle.ps_lines.specs.declared.lines.Line.TheVariants.{Checkpoint, Diff, Data, Partial, Complete, Expires, Unknown}
 use Rattle.ps_lines.specs.declared.faults.LineFault.{LineFault}
 use Rattle.ps_lines.specs.Reading.{line_of}
 use Rattle.ps_data.specs.declared.ids.OpId.{OpId}
@@ -15,7 +15,7 @@ use Rattle.ps_client_log.specs.declared.states.Target.TheVariants.{Free, Pending
 use Rattle.ps_client_log.specs.Kept.{Kept, bucket_at}
 use Rattle.ps_client_log.specs.Edits.{with_taken}
 use Rattle.ps_client.specs.declared.events.Event.{Event}
-use Rattle.ps_client.specs.declared.events.Event.TheVariants.{Nothing, Applied, Held, Refused, Expiring}
+use Rattle.ps_client.specs.declared.events.Event.TheVariants.{Nothing, Applied, PartlyApplied, Held, Refused, Expiring}
 use Rattle.ps_client.specs.declared.events.Differing.{Differing}
 use Rattle.ps_client.specs.declared.events.Why.{Why}
 use Rattle.ps_client.specs.declared.events.Why.TheVariants as why
@@ -24,7 +24,7 @@ use Rattle.ps_client.specs.declared.faults.ClientFault.TheVariants.{OutOfOrder, 
 use Rattle.ps_client.specs.declared.tables.Table.{Table}
 use Rattle.ps_client.specs.declared.streams.Stream.{Stream}
 use Rattle.ps_client.specs.declared.streams.Stream.TheVariants.{Over, Asked, Open}
-use Rattle.ps_client.specs.Tables.{Entries, is_one_of, is_told, with_entries, without, differing, agrees, names_of}
+use Rattle.ps_client.specs.Tables.{Entries, is_one_of, is_told, with_entries, without, entries_upto, differing, agrees, names_of}
 
 -- what it keeps (its buckets, the local writes that wait, the target and the rows that are shown), and its stream
 pub record PlainClient : Type 0 where
@@ -120,6 +120,24 @@ abbrev pub compared : List Differing → Kept → Table → Took
 compared [] kept table = applied (held kept table) kept table
 compared (bucket ∷ buckets) kept table = refused (bucket ∷ buckets) kept
 
+-- ---- a part
+
+-- where nothing holds it, its rows are early ones: which, `ShowsEarly` of specs/EarlyRows.antt says
+abbrev pub partly_applied : Option Why → Kept → Table → ℕ → Took
+partly_applied (Some why) kept table priority = said kept (Open table) (Held why)
+partly_applied None kept table priority = said kept (Open table) (PartlyApplied priority table.last_op)
+
+abbrev pub partly_compared : List Differing → Kept → Table → ℕ → Took
+partly_compared [] kept table priority = partly_applied (held kept table) kept table priority
+partly_compared (bucket ∷ buckets) kept table priority = refused (bucket ∷ buckets) kept
+
+-- of buckets of at most its priority the totals decide
+abbrev pub partial_taken : Kept → Table → OpId → ℕ → Took
+partial_taken kept table last_op priority =
+    if last_op.0 == table.last_op.0 then partly_compared (differing kept (entries_upto priority table.told)) kept table priority else faulted kept OutOfOrder
+
+-- ---- the end of a checkpoint
+
 abbrev pub complete_taken : Kept → Table → OpId → Took
 complete_taken kept table last_op =
     if last_op.0 == table.last_op.0 then compared (differing kept table.told) kept table else faulted kept OutOfOrder
@@ -131,6 +149,7 @@ abbrev pub first_taken : Kept → Line → Took
 first_taken kept (Checkpoint last_op number buckets) = checkpoint_taken kept last_op number buckets
 first_taken kept (Diff last_op number removed updated) = faulted kept OutOfOrder
 first_taken kept (Data bucket after has_more ops next) = faulted kept OutOfOrder
+first_taken kept (Partial last_op priority) = faulted kept OutOfOrder
 first_taken kept (Complete last_op) = faulted kept OutOfOrder
 first_taken kept (Expires seconds) = said kept Asked (Expiring seconds)
 first_taken kept Unknown = said kept Asked Nothing
@@ -140,6 +159,7 @@ abbrev pub next_taken : Kept → Table → Line → Took
 next_taken kept table (Checkpoint last_op number buckets) = checkpoint_taken kept last_op number buckets
 next_taken kept table (Diff last_op number removed updated) = diff_taken kept table last_op number removed updated
 next_taken kept table (Data bucket after has_more ops next) = data_taken kept table bucket after ops
+next_taken kept table (Partial last_op priority) = partial_taken kept table last_op priority
 next_taken kept table (Complete last_op) = complete_taken kept table last_op
 next_taken kept table (Expires seconds) = said kept (Open table) (Expiring seconds)
 next_taken kept table Unknown = said kept (Open table) Nothing

@@ -3,12 +3,12 @@ use Rattle.std.specs.Prelude.{◌≡◌, ◌≢◌, ℕ, true, false, List, [], 
 use Rattle.ps_io.specs.Counts.{Rose}
 use Rattle.ps_lines.specs.declared.faults.LineFault.{LineFault}
 use Rattle.ps_lines.specs.declared.lines.Line.{Line}
-use Rattle.ps_lines.specs.declared.lines.Line.TheVariants.{Checkpoint, Diff, Data, Complete, Expires, Unknown}
+use Rattle.ps_lines.specs.declared.lines.Line.TheVariants.{Checkpoint, Diff, Data, Partial, Complete, Expires, Unknown}
 use Rattle.ps_client_log.specs.Kept.{Kept}
 use Rattle.ps_client_log.specs.declared.faults.KeepFault.{KeepFault}
 use Rattle.ps_client_log.specs.declared.faults.KeepFault.TheVariants as keeps
 use Rattle.ps_client.specs.declared.events.Event.{Event}
-use Rattle.ps_client.specs.declared.events.Event.TheVariants.{Nothing, Applied, Held, Refused, Expiring}
+use Rattle.ps_client.specs.declared.events.Event.TheVariants.{Nothing, Applied, PartlyApplied, Held, Refused, Expiring}
 use Rattle.ps_client.specs.declared.faults.ClientFault.{ClientFault}
 use Rattle.ps_client.specs.declared.faults.ClientFault.TheVariants.{OutOfOrder, BadLine, KeeperFault, QueueEmpty, QueueWaiting, Memory}
 use Rattle.ps_client.specs.Tables.{Entries, is_told, with_entries}
@@ -24,6 +24,7 @@ abbrev pub Edits : Kept → Line → Type 0
 Edits kept (Checkpoint last_op number buckets) = KeepsUntold (with_entries [] buckets) kept
 Edits kept (Diff last_op number removed updated) = removed ≢ []
 Edits kept (Data bucket after has_more ops next) = Unit {0}
+Edits kept (Partial last_op priority) = ⊥
 Edits kept (Complete last_op) = ⊥
 Edits kept (Expires seconds) = ⊥
 Edits kept Unknown = ⊥
@@ -39,6 +40,7 @@ EditsIf kept (Err fault) = ⊥
 abbrev pub Commits : Type 0 → Result Event ClientFault → Type 0
 Commits edits (Ok Nothing) = edits
 Commits edits (Ok (Applied op)) = Unit {0}
+Commits edits (Ok (PartlyApplied priority op)) = ⊥
 Commits edits (Ok (Held why)) = ⊥
 Commits edits (Ok (Refused buckets)) = Unit {0}
 Commits edits (Ok (Expiring seconds)) = ⊥

@@ -3,6 +3,7 @@ pub mod Tables
 pub mod Clients
 pub mod Taking
 pub mod Commits
+pub mod EarlyRows
 pub mod Keepers
 pub mod Requests
 pub mod LocalWrites

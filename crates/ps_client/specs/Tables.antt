@@ -1,5 +1,5 @@
 -- What the lines of a stream told of buckets, and which buckets differ from it.
-use Rattle.std.specs.Prelude.{ℕ, Bool, ◌==◌, not, if◌then◌else◌, List, [], ◌∷◌, map, filter, fold, Option, Some, None, is_some, bytes_eq}
+use Rattle.std.specs.Prelude.{ℕ, Bool, ◌==◌, nat_le, not, if◌then◌else◌, List, [], ◌∷◌, map, filter, fold, Option, Some, None, is_some, bytes_eq}
 use Rattle.std.specs.BTreeMap.{insert_entry}
 use Rattle.std.specs.Cmp.Lexicographic.{slice_cmp}
 use Rattle.std.specs.List.{list_any, list_all}
@@ -35,6 +35,10 @@ with_entries entries more = fold with_entry entries more
 -- the entries of other buckets than these
 abbrev pub without : List (List ℕ) → Entries → Entries
 without names entries = filter (λ pair. not (is_one_of names pair.0)) entries
+
+-- the entries of buckets of at most a priority
+abbrev pub entries_upto : ℕ → Entries → Entries
+entries_upto priority entries = filter (λ pair. nat_le pair.1.priority priority) entries
 
 -- of a list of entries the last one of a bucket
 abbrev pub last_entry : List Entry → List ℕ → Option Entry

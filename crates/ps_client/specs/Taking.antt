@@ -5,12 +5,12 @@ use Rattle.ps_bucket_log.specs.Ops.{newest}
 use Rattle.ps_bucket_log.specs.Logs.{IsRising}
 use Rattle.ps_lines.specs.declared.faults.LineFault.{LineFault}
 use Rattle.ps_lines.specs.declared.lines.Line.{Line}
-use Rattle.ps_lines.specs.declared.lines.Line.TheVariants.{Checkpoint, Diff, Data, Complete, Expires, Unknown}
+use Rattle.ps_lines.specs.declared.lines.Line.TheVariants.{Checkpoint, Diff, Data, Partial, Complete, Expires, Unknown}
 use Rattle.ps_rows.specs.Source.{Key as Object}
 use Rattle.ps_client_log.specs.Kept.{Kept}
 use Rattle.ps_client_log.specs.Rows.{HeldCopy, Holds, IsLatestContent}
 use Rattle.ps_client.specs.declared.events.Event.{Event}
-use Rattle.ps_client.specs.declared.events.Event.TheVariants.{Nothing, Applied, Held, Refused, Expiring}
+use Rattle.ps_client.specs.declared.events.Event.TheVariants.{Nothing, Applied, PartlyApplied, Held, Refused, Expiring}
 use Rattle.ps_client.specs.declared.faults.ClientFault.{ClientFault}
 use Rattle.ps_client.specs.declared.faults.ClientFault.TheVariants.{OutOfOrder, BadLine, KeeperFault, QueueEmpty, QueueWaiting, Memory}
 use Rattle.ps_client.specs.declared.taking.Step.{Step}
@@ -29,6 +29,7 @@ pub record AreHeld (kept : Kept) (rows : Rows) : Type 0 where
 abbrev pub Shows : Event → Kept → Rows → Type 0
 Shows Nothing old rows = rows ≡ old.shown
 Shows (Applied op) old rows = AreHeld old rows
+Shows (PartlyApplied priority op) old rows = rows ≡ old.shown
 Shows (Held why) old rows = rows ≡ old.shown
 Shows (Refused buckets) old rows = rows ≡ old.shown
 Shows (Expiring seconds) old rows = rows ≡ old.shown
@@ -76,6 +77,7 @@ abbrev pub IsInOrder : Line → Type 0
 IsInOrder (Checkpoint last_op number buckets) = Unit {0}
 IsInOrder (Diff last_op number removed updated) = Unit {0}
 IsInOrder (Data bucket after has_more ops next) = IsRising after.0 ops × (newest ops ≤ greatest)
+IsInOrder (Partial last_op priority) = Unit {0}
 IsInOrder (Complete last_op) = Unit {0}
 IsInOrder (Expires seconds) = Unit {0}
 IsInOrder Unknown = Unit {0}

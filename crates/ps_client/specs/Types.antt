@@ -1,6 +1,7 @@
 -- The types of this crate, for the definitions of the crates above.
 pub use Rattle.ps_client.specs.declared.events.Event.{Event}
-pub use Rattle.ps_client.specs.declared.events.Event.TheVariants.{Nothing, Applied, Held, Refused, Expiring}
+pub use Rattle.ps_client.specs.declared.events.Event.TheVariants.{Nothing, Applied, PartlyApplied, Held, Refused, Expiring}
+pub use Rattle.ps_client.specs.declared.early.Early.{Early}
 pub use Rattle.ps_client.specs.declared.events.Differing.{Differing}
 pub use Rattle.ps_client.specs.declared.events.Why.{Why}
 pub use Rattle.ps_client.specs.declared.faults.ClientFault.{ClientFault}

@@ -1,4 +1,4 @@
-ghost use Rattle.std.specs.Prelude.{◌≡◌, ◌≢◌, ◌≤◌, [], IfOk, IfErr, IfSome, OnOk, OnErr, Ok, Err, option_map};
+ghost use Rattle.std.specs.Prelude.{◌≡◌, ◌≢◌, ◌≤◌, [], IfOk, IfErr, IfSome, OnOk, OnErr, Ok, Err, None, option_map};
 ghost use Rattle.std.specs.Str.{IsUtf8};
 ghost use Rattle.ps_data.specs.Numbers.{greatest};
 ghost use Rattle.ps_lines.specs.Bodies.{IsBody};
@@ -11,12 +11,14 @@ ghost use Rattle.ps_client_log.specs.Rows.{AreInOrder, row_at};
 ghost use Rattle.ps_client.specs.Clients.{asked, ended, line_taken, matches_told, is_pending};
 ghost use Rattle.ps_client.specs.declared.faults.ClientFault.TheVariants.{BadLine};
 ghost use Rattle.ps_client.specs.Commits.{EditsIf, Commits, FaultsOnlyWhere, Says};
+ghost use Rattle.ps_client.specs.EarlyRows.{early_of, told_by, AnswersEarly};
 ghost use Rattle.ps_client.specs.Keepers.{Follows, RoseWhereFaulted};
 ghost use Rattle.ps_client.specs.LocalWrites.{written, popped, aimed, keeping, FailsBelow, WantsWrites, WantsNoWrites, next_upload, oldest, IsReadAgain};
 ghost use Rattle.ps_client.specs.Requests.{IsRequest};
 ghost use Rattle.ps_client.specs.States.{keeper_of, state, name_of, IsOpened};
 ghost use Rattle.ps_client.specs.Taking.{Answers, IsInOrder, IsReadFault};
 
+use crate::early::{Early, Next};
 use crate::local_writes::{aim, next_body, pop, write};
 use crate::requests::request_for;
 use crate::showing::rows_in_order;
@@ -24,7 +26,7 @@ use crate::streams::Stream;
 use crate::taking::{self, Step};
 use crate::{ClientFault, Event};
 use ps_client_log::{ClientLog, Hashing, KeepFault, Keeper, Shown, Target, VolatileKeeper};
-use ps_data::{Items, Memory, Text};
+use ps_data::{Items, Memory, Text, copy_all};
 use ps_lines::{Line, LineFault, StreamBody, read_line};
 use ps_rows::Change;
 use std::alloc::Global;
@@ -35,6 +37,7 @@ pub struct Client<K: Keeper> {
     log: ClientLog<K>,
     name: Text,
     stream: Stream,
+    early: Option<Early>,
 }
 
 // By hand: docs/DECISIONS.md, "Drops".
@@ -44,6 +47,7 @@ impl<K: Keeper + Drop> Drop for Client<K> {
             log: _log,
             name: _name,
             stream: _stream,
+            early: _early,
         } = self;
     }
 }
@@ -66,6 +70,7 @@ impl Client<VolatileKeeper> {
     /// A client that holds nothing, with no stream begun, and has an id. Nothing is loaded: this keeper keeps nothing.
     pub fn begin(alloc: Global, keeper: VolatileKeeper, client: Text) -> Client<VolatileKeeper>
         ensures opened { IsOpened (state result) }
+        ensures early { early_of result ≡ None }
         ensures kept { (state result).kept ≡ nothing_kept }
         ensures name { name_of result ≡ client }
         ensures keeper { keeper_of result ≡ keeper }
@@ -74,6 +79,7 @@ impl Client<VolatileKeeper> {
             log: ClientLog::begin(alloc, keeper),
             name: client,
             stream: Stream::Over,
+            early: None,
         }
     }
 }
@@ -83,6 +89,7 @@ impl<K: Keeper> Client<K> {
     /// for keys that nobody chose for it. Fails as `open_hashed` does, and gives the keeper back then.
     pub fn open(alloc: Global, keeper: K, client: Text) -> Result<Client<K>, (K, KeepFault)>
         ensures opened { IfOk result (λ opened. IsOpened (state opened)) }
+        ensures early { IfOk result (λ opened. early_of opened ≡ None) }
         ensures kept { IfOk result (λ opened. Tells (K.held keeper) (state opened).kept) }
         ensures name { IfOk result (λ opened. name_of opened ≡ client) }
         ensures held { IfOk result (λ opened. K.held (keeper_of opened) ≡ K.held keeper) }
@@ -106,6 +113,7 @@ impl<K: Keeper> Client<K> {
         hashing: Hashing,
     ) -> Result<Client<K>, (K, KeepFault)>
         ensures opened { IfOk result (λ opened. IsOpened (state opened)) }
+        ensures early { IfOk result (λ opened. early_of opened ≡ None) }
         ensures kept { IfOk result (λ opened. Tells (K.held keeper) (state opened).kept) }
         ensures name { IfOk result (λ opened. name_of opened ≡ client) }
         ensures held { IfOk result (λ opened. K.held (keeper_of opened) ≡ K.held keeper) }
@@ -121,6 +129,7 @@ impl<K: Keeper> Client<K> {
                 log,
                 name: client,
                 stream: Stream::Over,
+                early: None,
             }),
             Err(refused) => Err(refused),
         }
@@ -134,6 +143,7 @@ impl<K: Keeper> Client<K> {
             log,
             name: _name,
             stream: _stream,
+            early: _early,
         } = self;
         log.close()
     }
@@ -147,6 +157,7 @@ impl<K: Keeper> Client<K> {
         ensures err { OnErr result (state self.new ≡ state self.old) }
         ensures keeper { keeper_of self.new ≡ keeper_of self.old }
         ensures name { name_of self.new ≡ name_of self.old }
+        ensures early { early_of self.new ≡ early_of self.old }
     {
         let body = request_for(alloc, &self.log, &self.name)?;
         self.stream = Stream::Asked;
@@ -165,6 +176,7 @@ impl<K: Keeper> Client<K> {
         ensures faults { K.faults (keeper_of self.old) ≤ K.faults (keeper_of self.new) }
         ensures quiet { OnOk result (K.faults (keeper_of self.new) ≡ K.faults (keeper_of self.old)) }
         ensures name { name_of self.new ≡ name_of self.old }
+        ensures early { AnswersEarly (state self.old).kept (told_by (state self.old).stream) (early_of self.old) (early_of self.new) result }
         // The keeper's fault comes only where the plain client's answer is one that commits.
         ensures commits { FaultsOnlyWhere (Commits (EditsIf (state self.old).kept (line_of line.now)) (line_taken (state self.old) line.now).answer) result }
         // Where the plain client says something, so does this one, but for out of memory and for its keeper.
@@ -184,14 +196,24 @@ impl<K: Keeper> Client<K> {
         ensures faults { K.faults (keeper_of self.old) ≤ K.faults (keeper_of self.new) }
         ensures quiet { OnOk result (K.faults (keeper_of self.new) ≡ K.faults (keeper_of self.old)) }
         ensures name { name_of self.new ≡ name_of self.old }
+        ensures early { AnswersEarly (state self.old).kept (told_by (state self.old).stream) (early_of self.old) (early_of self.new) result }
         ensures commits { FaultsOnlyWhere (Commits (EditsIf (state self.old).kept (line_of line.now)) (line_taken (state self.old) line.now).answer) result }
         ensures no_text { ¬ (IsUtf8 (without_feed line.now)) → result ≡ Err (BadLine BadJson) }
     {
         let _target = self.log.target();
         let stream = mem::replace(&mut self.stream, Stream::Over);
         let line = read(alloc, line)?;
-        let Step { event, stream } = taking::take(alloc, &mut self.log, stream, line)?;
+        let Step {
+            event,
+            stream,
+            early,
+        } = taking::take(alloc, &mut self.log, stream, line)?;
         self.stream = stream;
+        match early {
+            Next::Same => (),
+            Next::Gone => self.early = None,
+            Next::New { early } => self.early = Some(early),
+        }
         Ok(event)
     }
 
@@ -223,6 +245,20 @@ impl<K: Keeper> Client<K> {
         rows_in_order(alloc, self.log.shown())
     }
 
+    /// Copies of the early rows: those of the part of a checkpoint that came last, until a checkpoint is applied. None where there
+    /// are none. Neither other lines nor local writes nor a new stream change them.
+    pub fn early_rows(&self, alloc: Global) -> Result<Option<Early>, Memory>
+        ensures { IfOk result (λ early. early ≡ early_of self.now) }
+    {
+        match &self.early {
+            Some(early) => Ok(Some(Early {
+                priority: early.priority,
+                rows: copy_all(alloc, early.rows.as_slice())?,
+            })),
+            None => Ok(None),
+        }
+    }
+
     /// Keeps a local write until it is uploaded, and shows its row: a PUT's data is the compact JSON object of its
     /// columns and `id`, and a DELETE takes the row away. No checkpoint is applied until it covers the write. The
     /// change's table is not empty. Fails with `KeeperFault` where the keeper failed, and when out of memory, and with
@@ -237,6 +273,7 @@ impl<K: Keeper> Client<K> {
         ensures faults { K.faults (keeper_of self.old) ≤ K.faults (keeper_of self.new) }
         ensures quiet { OnOk result (K.faults (keeper_of self.new) ≡ K.faults (keeper_of self.old)) }
         ensures name { name_of self.new ≡ name_of self.old }
+        ensures early { early_of self.new ≡ early_of self.old }
     {
         write(alloc, &mut self.log, change)?;
         Ok(())
@@ -273,6 +310,7 @@ impl<K: Keeper> Client<K> {
         ensures faults { K.faults (keeper_of self.old) ≤ K.faults (keeper_of self.new) }
         ensures quiet { OnOk result (K.faults (keeper_of self.new) ≡ K.faults (keeper_of self.old)) }
         ensures name { name_of self.new ≡ name_of self.old }
+        ensures early { early_of self.new ≡ early_of self.old }
     {
         let _target = self.log.target();
         if self.log.queue().is_empty() {
@@ -295,6 +333,7 @@ impl<K: Keeper> Client<K> {
         ensures faults { K.faults (keeper_of self.old) ≤ K.faults (keeper_of self.new) }
         ensures quiet { OnOk result (K.faults (keeper_of self.new) ≡ K.faults (keeper_of self.old)) }
         ensures name { name_of self.new ≡ name_of self.old }
+        ensures early { early_of self.new ≡ early_of self.old }
     {
         let _target = self.log.target();
         let length = self.log.queue().len() as u64;

@@ -11,12 +11,19 @@ pub enum Event {
         /// The newest operation that the checkpoint covers.
         op: OpId,
     },
-    /// A checkpoint is whole, and local writes keep it from being applied.
+    /// All of a checkpoint's buckets of at most a priority are there: the early rows are those that they hold.
+    PartlyApplied {
+        /// The priority, from 0, the most urgent, to 3.
+        priority: u8,
+        /// The newest operation that the checkpoint covers.
+        op: OpId,
+    },
+    /// A checkpoint is whole, or a part of it is, and local writes keep it from being applied.
     Held {
         /// What they wait for.
         why: Why,
     },
-    /// The totals of some buckets are not the checkpoint's. These buckets are gone, and the stream is over.
+    /// The totals of some buckets are not the checkpoint's, of those that were to be whole. These buckets are gone, and the stream is over.
     Refused {
         /// These buckets, by name.
         buckets: Items<Differing>,

@@ -2,6 +2,7 @@
 #![tactic(auto)]
 
 mod clients;
+mod early;
 mod events;
 mod faults;
 mod laws;
@@ -14,6 +15,7 @@ mod taking;
 mod telling;
 
 pub use clients::Client;
+pub use early::Early;
 pub use events::{Differing, Event, Why};
 pub use faults::ClientFault;
 pub use laws::{

@@ -8,12 +8,15 @@ ghost use Rattle.ps_client_log.specs.Keeping.{RoseWhereFailed};
 ghost use Rattle.ps_client_log.specs.Logs.{kept, keeper_of};
 ghost use Rattle.ps_client_log.specs.declared.edits.Edit.TheVariants as edits_of;
 ghost use Rattle.ps_client.specs.declared.events.Event.TheVariants as events;
-ghost use Rattle.ps_client.specs.Clients.{only_told, without_buckets, checkpoint_taken, diff_taken, data_taken, complete_taken, applied as applied_by, comes_next as comes_next_to, held_by as held_for, freed, refused as refused_for, taken_in, first_taken, next_taken};
+ghost use Rattle.ps_client.specs.declared.early.Next.TheVariants as nexts;
+ghost use Rattle.ps_client.specs.Clients.{only_told, without_buckets, checkpoint_taken, diff_taken, data_taken, partial_taken, partly_applied, complete_taken, applied as applied_by, comes_next as comes_next_to, held_by as held_for, freed, refused as refused_for, taken_in, first_taken, next_taken};
 ghost use Rattle.ps_client.specs.Commits.{KeepsUntold, Edits, Commits, FailsOnlyWhere, FaultsOnlyWhere};
+ghost use Rattle.ps_client.specs.EarlyRows.{told_by, AreEarly, TakesEarly};
 ghost use Rattle.ps_client.specs.Keepers.{Follows, RoseWhereFaulted};
-ghost use Rattle.ps_client.specs.Tables.{is_told, with_entries, names_of as names_in};
+ghost use Rattle.ps_client.specs.Tables.{Entries, is_told, with_entries, names_of as names_in};
 ghost use Rattle.ps_client.specs.Taking.{AreHeld, Takes, IsInOrder};
 
+use crate::early::{Early, Next};
 use crate::streams::Stream;
 use crate::tables::Table;
 use crate::telling::Told;
@@ -24,21 +27,30 @@ use ps_data::{Items, Memory, OpId, Text};
 use ps_lines::{Entry, Line};
 use std::alloc::Global;
 
-// What a line did: the event, and how far the stream is then.
+// What a line did: the event, how far the stream is then, and what becomes of the early rows.
 #[derive(Drop)]
 pub struct Step {
     pub event: Event,
     pub stream: Stream,
+    pub early: Next,
+}
+
+// An event that leaves the early rows as they are.
+fn said(event: Event, stream: Stream) -> Step
+    ensures { result ≡ record { event = event; stream = stream; early = nexts.Same } }
+{
+    Step {
+        event,
+        stream,
+        early: Next::Same,
+    }
 }
 
 // Nothing is to be told.
 fn nothing(stream: Stream) -> Step
-    ensures { result ≡ record { event = events.Nothing; stream = stream } }
+    ensures { result ≡ record { event = events.Nothing; stream = stream; early = nexts.Same } }
 {
-    Step {
-        event: Event::Nothing,
-        stream,
-    }
+    said(Event::Nothing, stream)
 }
 
 // Makes edits in one commit, where there are any.
@@ -129,6 +141,7 @@ fn take_checkpoint<K: Keeper>(
     buckets: Items<Entry>,
 ) -> Result<Step, ClientFault>
     ensures taken { Takes (checkpoint_taken (kept log.old) last_op number buckets) (kept log.old) (kept log.new) result }
+    ensures early { (told : Entries) → TakesEarly (kept log.old) told result }
     ensures follows { Follows (K.held (keeper_of log.old)) (K.held (keeper_of log.new)) (kept log.new) }
     ensures failed { RoseWhereFaulted result (K.faults (keeper_of log.old)) (K.faults (keeper_of log.new)) }
     ensures faults { K.faults (keeper_of log.old) ≤ K.faults (keeper_of log.new) }
@@ -158,6 +171,7 @@ fn take_diff<K: Keeper>(
     updated: Items<Entry>,
 ) -> Result<Step, ClientFault>
     ensures taken { Takes (diff_taken (kept log.old) table last_op number removed updated) (kept log.old) (kept log.new) result }
+    ensures early { TakesEarly (kept log.old) table.told result }
     ensures follows { Follows (K.held (keeper_of log.old)) (K.held (keeper_of log.new)) (kept log.new) }
     ensures failed { RoseWhereFaulted result (K.faults (keeper_of log.old)) (K.faults (keeper_of log.new)) }
     ensures faults { K.faults (keeper_of log.old) ≤ K.faults (keeper_of log.new) }
@@ -214,6 +228,7 @@ fn take_data<K: Keeper>(
     requires rising { IsRising after.0 ops }
     requires within { newest ops ≤ greatest }
     ensures taken { Takes (data_taken (kept log.old) table bucket after ops) (kept log.old) (kept log.new) result }
+    ensures early { TakesEarly (kept log.old) table.told result }
     ensures follows { Follows (K.held (keeper_of log.old)) (K.held (keeper_of log.new)) (kept log.new) }
     ensures failed { RoseWhereFaulted result (K.faults (keeper_of log.old)) (K.faults (keeper_of log.new)) }
     ensures faults { K.faults (keeper_of log.old) ≤ K.faults (keeper_of log.new) }
@@ -246,6 +261,7 @@ fn refuse<K: Keeper>(
     buckets: Items<Differing>,
 ) -> Result<Step, ClientFault>
     ensures taken { Takes (refused_for buckets (kept log.old)) (kept log.old) (kept log.new) result }
+    ensures early { (told : Entries) → TakesEarly (kept log.old) told result }
     ensures follows { Follows (K.held (keeper_of log.old)) (K.held (keeper_of log.new)) (kept log.new) }
     ensures failed { RoseWhereFaulted result (K.faults (keeper_of log.old)) (K.faults (keeper_of log.new)) }
     ensures faults { K.faults (keeper_of log.old) ≤ K.faults (keeper_of log.new) }
@@ -254,10 +270,7 @@ fn refuse<K: Keeper>(
     let _target = log.target();
     let names = names_of(alloc, buckets.as_slice())?;
     delete_all(alloc, log, names)?;
-    Ok(Step {
-        event: Event::Refused { buckets },
-        stream: Stream::Over,
-    })
+    Ok(said(Event::Refused { buckets }, Stream::Over))
 }
 
 // What keeps a checkpoint with this number from being applied.
@@ -308,6 +321,7 @@ fn settle<K: Keeper>(
     table: Table,
 ) -> Result<Step, ClientFault>
     ensures taken { Takes (applied_by (held_for (kept log.old).queue (kept log.old).target (unwrap_or table.number 0)) (kept log.old) table) (kept log.old) (kept log.new) result }
+    ensures early { TakesEarly (kept log.old) table.told result }
     ensures follows { Follows (K.held (keeper_of log.old)) (K.held (keeper_of log.new)) (kept log.new) }
     ensures failed { RoseWhereFaulted result (K.faults (keeper_of log.old)) (K.faults (keeper_of log.new)) }
     ensures faults { K.faults (keeper_of log.old) ≤ K.faults (keeper_of log.new) }
@@ -316,15 +330,13 @@ fn settle<K: Keeper>(
 {
     let _target = log.target();
     if let Some(why) = held_by(log, table.number) {
-        return Ok(Step {
-            event: Event::Held { why },
-            stream: Stream::Open { table },
-        });
+        return Ok(said(Event::Held { why }, Stream::Open { table }));
     }
     show_held(alloc, log)?;
     Ok(Step {
         event: Event::Applied { op: table.last_op },
         stream: Stream::Open { table },
+        early: Next::Gone,
     })
 }
 
@@ -336,6 +348,7 @@ fn take_complete<K: Keeper>(
     last_op: OpId,
 ) -> Result<Step, ClientFault>
     ensures taken { Takes (complete_taken (kept log.old) table last_op) (kept log.old) (kept log.new) result }
+    ensures early { TakesEarly (kept log.old) table.told result }
     ensures follows { Follows (K.held (keeper_of log.old)) (K.held (keeper_of log.new)) (kept log.new) }
     ensures failed { RoseWhereFaulted result (K.faults (keeper_of log.old)) (K.faults (keeper_of log.new)) }
     ensures faults { K.faults (keeper_of log.old) ≤ K.faults (keeper_of log.new) }
@@ -354,6 +367,74 @@ fn take_complete<K: Keeper>(
     }
 }
 
+// The rows that the buckets of at most a priority hold.
+fn early_rows<K: Keeper>(
+    alloc: Global,
+    log: &ClientLog<K>,
+    told: &Told,
+    priority: u8,
+) -> Result<Early, Memory>
+    ensures priority { IfOk result (λ early. early.priority ≡ priority) }
+    ensures rows { IfOk result (AreEarly (kept log.now) told.now) }
+{
+    let names = told.names_upto(alloc, priority)?;
+    let rows = log.held_rows_in(alloc, names.as_slice())?;
+    let rows = Items::from_vec(rows);
+    Ok(Early { priority, rows })
+}
+
+// The totals of a part agree: local writes may hold it, else its rows are the early ones.
+fn settle_part<K: Keeper>(
+    alloc: Global,
+    log: &mut ClientLog<K>,
+    table: Table,
+    priority: u8,
+) -> Result<Step, ClientFault>
+    ensures taken { Takes (partly_applied (held_for (kept log.old).queue (kept log.old).target (unwrap_or table.number 0)) (kept log.old) table priority) (kept log.old) (kept log.new) result }
+    ensures early { TakesEarly (kept log.old) table.told result }
+    ensures untouched { keeper_of log.new ≡ keeper_of log.old }
+    ensures commits { FaultsOnlyWhere ⊥ result }
+{
+    if let Some(why) = held_by(log, table.number) {
+        return Ok(said(Event::Held { why }, Stream::Open { table }));
+    }
+    let early = early_rows(alloc, log, &table.told, priority)?;
+    let op = table.last_op;
+    Ok(Step {
+        event: Event::PartlyApplied { priority, op },
+        stream: Stream::Open { table },
+        early: Next::New { early },
+    })
+}
+
+// All operations of a part of the checkpoint were sent: the totals of its buckets decide.
+fn take_partial<K: Keeper>(
+    alloc: Global,
+    log: &mut ClientLog<K>,
+    table: Table,
+    last_op: OpId,
+    priority: u8,
+) -> Result<Step, ClientFault>
+    ensures taken { Takes (partial_taken (kept log.old) table last_op priority) (kept log.old) (kept log.new) result }
+    ensures early { TakesEarly (kept log.old) table.told result }
+    ensures follows { Follows (K.held (keeper_of log.old)) (K.held (keeper_of log.new)) (kept log.new) }
+    ensures failed { RoseWhereFaulted result (K.faults (keeper_of log.old)) (K.faults (keeper_of log.new)) }
+    ensures faults { K.faults (keeper_of log.old) ≤ K.faults (keeper_of log.new) }
+    ensures quiet { OnOk result (K.faults (keeper_of log.new) ≡ K.faults (keeper_of log.old)) }
+    ensures commits { FaultsOnlyWhere (Commits ⊥ (partial_taken (kept log.old) table last_op priority).answer) result }
+{
+    let _target = log.target();
+    if last_op.0 != table.last_op.0 {
+        return Err(ClientFault::OutOfOrder);
+    }
+    let buckets = table.told.differing_upto(alloc, log, priority)?;
+    if buckets.is_empty() {
+        settle_part(alloc, log, table, priority)
+    } else {
+        refuse(alloc, log, buckets)
+    }
+}
+
 // A line before the first checkpoint.
 fn take_first<K: Keeper>(
     alloc: Global,
@@ -361,6 +442,7 @@ fn take_first<K: Keeper>(
     line: Line,
 ) -> Result<Step, ClientFault>
     ensures taken { Takes (first_taken (kept log.old) line) (kept log.old) (kept log.new) result }
+    ensures early { TakesEarly (kept log.old) [] result }
     ensures follows { Follows (K.held (keeper_of log.old)) (K.held (keeper_of log.new)) (kept log.new) }
     ensures failed { RoseWhereFaulted result (K.faults (keeper_of log.old)) (K.faults (keeper_of log.new)) }
     ensures faults { K.faults (keeper_of log.old) ≤ K.faults (keeper_of log.new) }
@@ -374,13 +456,10 @@ fn take_first<K: Keeper>(
             number,
             buckets,
         } => take_checkpoint(alloc, log, last_op, number, buckets),
-        Line::Diff { .. } | Line::Data { .. } | Line::Complete { .. } => Err(
+        Line::Diff { .. } | Line::Data { .. } | Line::Partial { .. } | Line::Complete { .. } => Err(
             ClientFault::OutOfOrder,
         ),
-        Line::Expires { seconds } => Ok(Step {
-            event: Event::Expiring { seconds },
-            stream: Stream::Asked,
-        }),
+        Line::Expires { seconds } => Ok(said(Event::Expiring { seconds }, Stream::Asked)),
         Line::Unknown => Ok(nothing(Stream::Asked)),
     }
 }
@@ -394,6 +473,7 @@ fn take_next<K: Keeper>(
 ) -> Result<Step, ClientFault>
     requires { IsInOrder line }
     ensures taken { Takes (next_taken (kept log.old) table line) (kept log.old) (kept log.new) result }
+    ensures early { TakesEarly (kept log.old) table.told result }
     ensures follows { Follows (K.held (keeper_of log.old)) (K.held (keeper_of log.new)) (kept log.new) }
     ensures failed { RoseWhereFaulted result (K.faults (keeper_of log.old)) (K.faults (keeper_of log.new)) }
     ensures faults { K.faults (keeper_of log.old) ≤ K.faults (keeper_of log.new) }
@@ -420,11 +500,9 @@ fn take_next<K: Keeper>(
             ops,
             next_after: _,
         } => take_data(alloc, log, table, bucket, after, ops),
+        Line::Partial { last_op, priority } => take_partial(alloc, log, table, last_op, priority),
         Line::Complete { last_op } => take_complete(alloc, log, table, last_op),
-        Line::Expires { seconds } => Ok(Step {
-            event: Event::Expiring { seconds },
-            stream: Stream::Open { table },
-        }),
+        Line::Expires { seconds } => Ok(said(Event::Expiring { seconds }, Stream::Open { table })),
         Line::Unknown => Ok(nothing(Stream::Open { table })),
     }
 }
@@ -438,6 +516,7 @@ pub fn take<K: Keeper>(
 ) -> Result<Step, ClientFault>
     requires { IsInOrder line }
     ensures taken { Takes (taken_in stream (kept log.old) line) (kept log.old) (kept log.new) result }
+    ensures early { TakesEarly (kept log.old) (told_by stream) result }
     ensures follows { Follows (K.held (keeper_of log.old)) (K.held (keeper_of log.new)) (kept log.new) }
     ensures failed { RoseWhereFaulted result (K.faults (keeper_of log.old)) (K.faults (keeper_of log.new)) }
     ensures faults { K.faults (keeper_of log.old) ≤ K.faults (keeper_of log.new) }

@@ -1,7 +1,8 @@
 ghost use Rattle.std.specs.Prelude.{◌≡◌, [], IfOk, OnOk, bytes_eq, not, filter};
 ghost use Rattle.std.specs.List.{list_all};
+ghost use Rattle.std.specs.Map.{keys_of};
 ghost use Rattle.ps_client_log.specs.Logs.{kept};
-ghost use Rattle.ps_client.specs.Tables.{is_told as is_told_in, with_entry, with_entries, without, differing as differing_from, agrees as agrees_with};
+ghost use Rattle.ps_client.specs.Tables.{is_told as is_told_in, with_entry, with_entries, without, entries_upto, differing as differing_from, agrees as agrees_with};
 
 use crate::Differing;
 use ps_client_log::{ClientLog, Keeper};
@@ -101,6 +102,46 @@ impl Told {
     {
         let mut buckets = Items::new(alloc);
         'entries: for (name, entry) in self.map.iter() {
+            let own = log.total(name);
+            if own.0 != entry.sum.0 {
+                let bucket = name.copy(alloc)?;
+                buckets.push(Differing {
+                    bucket,
+                    own,
+                    line: entry.sum,
+                })?;
+            }
+        }
+        Ok(buckets)
+    }
+
+    // The names of the buckets of at most a priority, in order.
+    pub fn names_upto(&self, alloc: Global, priority: u8) -> Result<Items<Text>, Memory>
+        ensures { IfOk result (λ names. names ≡ keys_of (entries_upto priority self.now)) }
+    {
+        let mut names = Items::new(alloc);
+        'entries: for (name, entry) in self.map.iter() {
+            if entry.priority <= priority {
+                names.push(name.copy(alloc)?)?;
+            }
+        }
+        Ok(names)
+    }
+
+    // Of the buckets of at most a priority those whose totals differ from the sums that are told, by name.
+    pub fn differing_upto<K: Keeper>(
+        &self,
+        alloc: Global,
+        log: &ClientLog<K>,
+        priority: u8,
+    ) -> Result<Items<Differing>, Memory>
+        ensures { IfOk result (λ buckets. buckets ≡ differing_from (kept log.now) (entries_upto priority self.now)) }
+    {
+        let mut buckets = Items::new(alloc);
+        'entries: for (name, entry) in self.map.iter() {
+            if entry.priority > priority {
+                continue;
+            }
             let own = log.total(name);
             if own.0 != entry.sum.0 {
                 let bucket = name.copy(alloc)?;

@@ -1,7 +1,8 @@
 -- The rows that buckets hold: for each object the data of its latest copy.
-use Rattle.std.specs.Prelude.{◌≡◌, ℕ, IsTrue, List, [], map, Option, Some}
+use Rattle.std.specs.Prelude.{◌≡◌, ℕ, IsTrue, if◌then◌else◌, List, [], map, bytes_eq, Option, Some, None}
 use Rattle.std.specs.Cmp.Lexicographic.{slice_cmp}
 use Rattle.std.specs.FinMap.Entries.{find, is_sorted}
+use Rattle.std.specs.List.{list_any}
 use Rattle.std.specs.Ordering.{nat_cmp, ordering_then, is_le}
 use Rattle.std.specs.declared.cmp.Ordering.{Ordering}
 use Rattle.ps_bucket_log.specs.declared.ops.Key.{Key}
@@ -47,6 +48,10 @@ content_of (Put id key content sum) = content
 content_of (Remove id key sum) = []
 content_of (Move id sum target) = []
 content_of (Clear id sum target) = []
+
+-- what is kept of the buckets of these names alone
+abbrev pub kept_in : List (List ℕ) → Kept → Kept
+kept_in names kept = record kept { bucket = λ name. if list_any (bytes_eq name) names then kept.bucket name else None }
 
 -- this is the data of the object's latest copy
 abbrev pub IsLatestContent : Kept → Object → List ℕ → Type 0

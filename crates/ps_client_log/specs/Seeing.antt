@@ -1,7 +1,8 @@
 -- Copies of objects are seen one after another, and of each object the latest is noted.
-use Rattle.std.specs.Prelude.{ℕ, Bool, true, ◌&&◌, if◌then◌else◌, IsTrue, List, [], ◌∷◌, ◌++◌, map, fold, bytes_eq, Option, Some, None}
+use Rattle.std.specs.Prelude.{ℕ, Bool, true, ◌&&◌, if◌then◌else◌, IsTrue, List, [], ◌∷◌, ◌++◌, map, flat_map, fold, bytes_eq, Option, Some, None}
 use Rattle.std.specs.List.{IsDistinct, list_any}
-use Rattle.std.specs.Map.{keys_of}
+use Rattle.std.specs.Map.{lookup, keys_of}
+use Rattle.std.specs.Option.{option_map_or}
 use Rattle.std.specs.Ordering.{is_lt, eq_by_cmp}
 use Rattle.ps_bucket_log.specs.declared.ops.Key.{Key}
 use Rattle.ps_rows.specs.Source.{Key as Object, key_cmp}
@@ -23,6 +24,10 @@ copies_at bucket slot = if slot.there then copies_in bucket slot.image.held.entr
 abbrev pub copies_of : List (List ℕ × Slot) → List HeldCopy
 copies_of [] = []
 copies_of (pair ∷ slots) = copies_at pair.0 pair.1 ++ copies_of slots
+
+-- and in those of these names, name by name
+abbrev pub copies_named : List (List ℕ) → List (List ℕ × Slot) → List HeldCopy
+copies_named names slots = flat_map (λ name. option_map_or (copies_at name) (lookup (bytes_eq name) slots) []) names
 
 -- no key stands twice in a bucket that is there
 abbrev pub HoldsKeysOnce : List ℕ × Slot → Type 0

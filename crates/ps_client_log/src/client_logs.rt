@@ -12,10 +12,10 @@ ghost use Rattle.ps_client_log.specs.Soundness.{IsSound, same_row};
 ghost use Rattle.ps_client_log.specs.Edits.{CanTake, CanMakeAll, with_bucket, with_taken, with_edits};
 ghost use Rattle.ps_client_log.specs.Keeping.{RoseAt, RoseWhereFailed, Tells, one_more};
 ghost use Rattle.ps_client_log.specs.Logs.{keeper_of, kept};
-ghost use Rattle.ps_client_log.specs.Rows.{HeldCopy, Holds, object_of, IsLatestContent, AreInOrder, row_at};
+ghost use Rattle.ps_client_log.specs.Rows.{HeldCopy, Holds, object_of, kept_in, IsLatestContent, AreInOrder, row_at};
 
 use crate::holdings::Holdings;
-use crate::rows::{bucket_names, held_rows};
+use crate::rows::{bucket_names, held_rows, held_rows_in};
 use crate::{Edit, Hashing, KeepFault, Keeper, Shown, Target, VolatileKeeper};
 use ps_bucket_log::Op;
 use ps_checksum::Sum;
@@ -248,5 +248,15 @@ impl<K: Keeper> ClientLog<K> {
         ensures all { IfOk result (λ rows. (copy : HeldCopy) → Holds (kept self.now) copy → IsSome (row_at (object_of copy) rows.items)) }
     {
         held_rows(alloc, &self.holdings)
+    }
+
+    /// The rows that the buckets of these names hold, as `held_rows` gives those of all buckets. It takes no more time than there are names
+    /// and rows of these buckets, but for a logarithm.
+    pub fn held_rows_in(&self, alloc: Global, names: &[Text]) -> Result<Vec<Shown>, Memory>
+        ensures in_order { IfOk result (λ rows. AreInOrder rows.items) }
+        ensures latest { IfOk result (λ rows. (object : Object) → IfSome (row_at object rows.items) (IsLatestContent (kept_in names.now (kept self.now)) object)) }
+        ensures all { IfOk result (λ rows. (copy : HeldCopy) → Holds (kept_in names.now (kept self.now)) copy → IsSome (row_at (object_of copy) rows.items)) }
+    {
+        held_rows_in(alloc, &self.holdings, names)
     }
 }

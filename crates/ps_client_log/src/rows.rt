@@ -11,9 +11,9 @@ ghost use Rattle.std.specs.Ordering.{nat_cmp, is_lt};
 ghost use Rattle.ps_rows.specs.Source.{Key as Object};
 ghost use Rattle.ps_client_log.specs.Images.{key_eq};
 ghost use Rattle.ps_client_log.specs.Rooms.{kept_by};
-ghost use Rattle.ps_client_log.specs.Rows.{HeldCopy, Holds, object_of, place_cmp, IsLatestContent, by_object, AreInOrder, row_at};
+ghost use Rattle.ps_client_log.specs.Rows.{HeldCopy, Holds, object_of, place_cmp, kept_in, IsLatestContent, by_object, AreInOrder, row_at};
 ghost use Rattle.ps_client_log.specs.Soundness.{same_row};
-ghost use Rattle.ps_client_log.specs.Seeing.{copy_of, copies_in, copies_at, copies_of, HoldsKeysOnce, noted_place, is_past, seen, all_seen, is_there};
+ghost use Rattle.ps_client_log.specs.Seeing.{copy_of, copies_in, copies_at, copies_of, copies_named, HoldsKeysOnce, noted_place, is_past, seen, all_seen, is_there};
 ghost use Rattle.ps_client_log.specs.Lending.{object_at, lent_cmp, note_at, noted, row_from, row_noted};
 
 use crate::buckets::Buckets;
@@ -130,6 +130,25 @@ fn latest_copies<'a>(
     Ok(rows)
 }
 
+// The latest copy of each object that some bucket of these names holds, of which nothing is copied.
+fn latest_copies_in<'a>(
+    alloc: Global,
+    buckets: &'a Buckets,
+    names: &'a [Text],
+) -> Result<BTreeMap<(&'a Text, &'a Text), Latest<'a>>, Memory>
+    ensures rows { IfOk result (λ rows. (object : Object) → noted rows object ≡ all_seen object None (copies_named names.now buckets.now.slots.entries)) }
+    ensures names { IsDistinct bytes_eq (keys_of buckets.now.slots.entries) }
+{
+    let _count = buckets.slots.len();
+    let mut rows = BTreeMap::new(alloc);
+    'names: for name in names {
+        if let Some(slot) = buckets.slots.get(name) {
+            see_slot(&mut rows, name, slot)?;
+        }
+    }
+    Ok(rows)
+}
+
 // A row of copies of its parts.
 fn row_of_parts(alloc: Global, kind: &Text, id: &Text, content: &Text) -> Result<Shown, Memory>
     ensures { IfOk result (λ row. row ≡ row_from (kind.now, id.now) content.now) }
@@ -164,6 +183,20 @@ pub fn held_rows(alloc: Global, holdings: &Holdings) -> Result<Vec<Shown>, Memor
     ensures all { IfOk result (λ rows. (copy : HeldCopy) → Holds (kept_by holdings.now) copy → IsSome (row_at (object_of copy) rows.items)) }
 {
     let latest = latest_copies(alloc, &holdings.buckets)?;
+    rows_of(alloc, latest)
+}
+
+// The rows that the buckets of these names hold, in order.
+pub fn held_rows_in(
+    alloc: Global,
+    holdings: &Holdings,
+    names: &[Text],
+) -> Result<Vec<Shown>, Memory>
+    ensures in_order { IfOk result (λ rows. AreInOrder rows.items) }
+    ensures latest { IfOk result (λ rows. (object : Object) → IfSome (row_at object rows.items) (IsLatestContent (kept_in names.now (kept_by holdings.now)) object)) }
+    ensures all { IfOk result (λ rows. (copy : HeldCopy) → Holds (kept_in names.now (kept_by holdings.now)) copy → IsSome (row_at (object_of copy) rows.items)) }
+{
+    let latest = latest_copies_in(alloc, &holdings.buckets, names)?;
     rows_of(alloc, latest)
 }
 
