@@ -11,7 +11,7 @@ use Rattle.ps_lines.specs.declared.faults.LineFault.{LineFault}
 use Rattle.ps_lines.specs.Bodies.{body_of}
 use Rattle.ps_client_log.specs.Kept.{Kept, nothing_kept}
 use Rattle.ps_client.specs.declared.events.Event.{Event}
-use Rattle.ps_client.specs.declared.events.Event.TheVariants.{Nothing, Applied, Held, Refused, Expiring}
+use Rattle.ps_client.specs.declared.events.Event.TheVariants.{Nothing, Applied, PartlyApplied, Held, Refused, Expiring}
 use Rattle.ps_client.specs.declared.faults.ClientFault.{ClientFault}
 use Rattle.ps_client.specs.declared.faults.ClientFault.TheVariants.{OutOfOrder, BadLine, KeeperFault, QueueEmpty, QueueWaiting, Memory}
 use Rattle.ps_client.specs.declared.streams.Stream.TheVariants.{Asked}
@@ -37,6 +37,7 @@ IsSettled case op rows low (Breaks kind) = (kind ≡ kinds.NoPosition) × NoneFi
 abbrev pub IsJudged : Result Event ClientFault → Case → Kept → ℕ → Outcome → Type 0
 IsJudged (Ok Nothing) case kept low outcome = outcome ≡ Taken
 IsJudged (Ok (Applied op)) case kept low outcome = (rows : List Shown) × AreLatestRows kept rows × IsSettled case op rows low outcome
+IsJudged (Ok (PartlyApplied priority op)) case kept low outcome = outcome ≡ Taken
 IsJudged (Ok (Held why)) case kept low outcome = outcome ≡ Taken
 IsJudged (Ok (Refused buckets)) case kept low outcome = outcome ≡ Breaks kinds.Checksum
 IsJudged (Ok (Expiring seconds)) case kept low outcome = outcome ≡ Taken

@@ -7,7 +7,7 @@ use Rattle.ps_lines.specs.Bodies.{body_of}
 use Rattle.ps_client_log.specs.Kept.{Kept}
 use Rattle.ps_client.specs.declared.events.Differing.{Differing}
 use Rattle.ps_client.specs.declared.events.Event.{Event}
-use Rattle.ps_client.specs.declared.events.Event.TheVariants.{Nothing, Applied, Held, Refused, Expiring}
+use Rattle.ps_client.specs.declared.events.Event.TheVariants.{Nothing, Applied, PartlyApplied, Held, Refused, Expiring}
 use Rattle.ps_client.specs.declared.faults.ClientFault.{ClientFault}
 use Rattle.ps_client.specs.declared.faults.ClientFault.TheVariants.{OutOfOrder, BadLine}
 use Rattle.ps_client.specs.Clients.{PlainClient, line_taken}
@@ -29,6 +29,7 @@ after_lines client (bytes ∷ lines) = after_lines (line_taken client bytes).cli
 abbrev pub IsTaken : Result Event ClientFault → Type 0
 IsTaken (Ok Nothing) = Unit {0}
 IsTaken (Ok (Applied op)) = Unit {0}
+IsTaken (Ok (PartlyApplied priority op)) = Unit {0}
 IsTaken (Ok (Held why)) = Unit {0}
 IsTaken (Ok (Refused buckets)) = ⊥
 IsTaken (Ok (Expiring seconds)) = Unit {0}

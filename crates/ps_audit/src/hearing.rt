@@ -91,6 +91,7 @@ fn hear_event(
     match event {
         Event::Nothing => Ok(Outcome::Taken),
         Event::Applied { op } => complete(alloc, subject, client, cursor, op),
+        Event::PartlyApplied { priority: _, op: _ } => Ok(Outcome::Taken),
         Event::Held { why: _ } => Ok(Outcome::Taken),
         Event::Refused { buckets: _ } => Ok(Outcome::Breaks {
             kind: Broken::Checksum,

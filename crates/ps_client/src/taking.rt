@@ -395,7 +395,8 @@ fn settle_part<K: Keeper>(
     ensures untouched { keeper_of log.new ≡ keeper_of log.old }
     ensures commits { FaultsOnlyWhere ⊥ result }
 {
-    if let Some(why) = held_by(log, table.number) {
+    let held = held_by(log, table.number);
+    if let Some(why) = held {
         return Ok(said(Event::Held { why }, Stream::Open { table }));
     }
     let early = early_rows(alloc, log, &table.told, priority)?;
@@ -428,7 +429,8 @@ fn take_partial<K: Keeper>(
         return Err(ClientFault::OutOfOrder);
     }
     let buckets = table.told.differing_upto(alloc, log, priority)?;
-    if buckets.is_empty() {
+    let agree = buckets.is_empty();
+    if agree {
         settle_part(alloc, log, table, priority)
     } else {
         refuse(alloc, log, buckets)

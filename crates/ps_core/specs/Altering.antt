@@ -5,7 +5,7 @@ use Rattle.ps_checksum.specs.Sums.{add_sums}
 use Rattle.ps_bucket_log.specs.declared.ops.Op.{Op}
 use Rattle.ps_bucket_log.specs.declared.ops.Op.TheVariants.{Put, Remove, Move, Clear}
 use Rattle.ps_lines.specs.declared.lines.Line.{Line}
-use Rattle.ps_lines.specs.declared.lines.Line.TheVariants.{Checkpoint, Diff, Data, Complete, Expires, Unknown}
+use Rattle.ps_lines.specs.declared.lines.Line.TheVariants.{Checkpoint, Diff, Data, Partial, Complete, Expires, Unknown}
 use Rattle.ps_streams.specs.Runs.{Made}
 
 -- one more, modulo 2^32
@@ -26,6 +26,7 @@ abbrev pub is_data : Line → Bool
 is_data (Checkpoint last_op upload buckets) = false
 is_data (Diff last_op upload removed updated) = false
 is_data (Data bucket after has_more ops next) = true
+is_data (Partial last_op priority) = false
 is_data (Complete last_op) = false
 is_data (Expires seconds) = false
 is_data Unknown = false
@@ -35,6 +36,7 @@ abbrev pub altered : Line → Line
 altered (Checkpoint last_op upload buckets) = Checkpoint last_op upload buckets
 altered (Diff last_op upload removed updated) = Diff last_op upload removed updated
 altered (Data bucket after has_more ops next) = Data bucket after has_more (altered_ops ops) next
+altered (Partial last_op priority) = Partial last_op priority
 altered (Complete last_op) = Complete last_op
 altered (Expires seconds) = Expires seconds
 altered Unknown = Unknown

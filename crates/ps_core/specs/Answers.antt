@@ -2,7 +2,7 @@
 use Rattle.std.specs.Prelude.{◌≡◌, Bool, true, false, Result, Ok, Err}
 use Rattle.ps_lines.specs.declared.lines.Line.{Line}
 use Rattle.ps_client.specs.declared.events.Event.{Event}
-use Rattle.ps_client.specs.declared.events.Event.TheVariants.{Nothing, Applied, Held, Refused, Expiring}
+use Rattle.ps_client.specs.declared.events.Event.TheVariants.{Nothing, Applied, PartlyApplied, Held, Refused, Expiring}
 use Rattle.ps_client.specs.declared.faults.ClientFault.{ClientFault}
 use Rattle.ps_client.specs.declared.faults.ClientFault.TheVariants as faults
 use Rattle.ps_client.specs.Clients.{PlainClient, taken}
@@ -20,6 +20,7 @@ empty_client = record { kept = nothing_kept; stream = Over }
 abbrev pub ends_by : Event → Bool
 ends_by Nothing = false
 ends_by (Applied op) = false
+ends_by (PartlyApplied priority op) = false
 ends_by (Held why) = false
 ends_by (Refused buckets) = true
 ends_by (Expiring seconds) = false

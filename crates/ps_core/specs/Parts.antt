@@ -18,7 +18,7 @@ use Rattle.ps_core.specs.Plays as plays
 use Rattle.ps_core.specs.PlaySteps.{Comes, refusal}
 use Rattle.ps_core.specs.declared.readers.Reader.{Reader}
 use Rattle.ps_core.specs.declared.visits.Visit.{Visit}
-use Rattle.ps_core.specs.declared.visits.Visit.TheVariants.{Open, Turn, Take, Cut, Alter, Local, Upload, Number, Rows}
+use Rattle.ps_core.specs.declared.visits.Visit.TheVariants.{Open, Turn, Take, Cut, Alter, Local, Upload, Number, Rows, Early}
 use Rattle.ps_core.specs.Texts.{IsPrintable}
 use Rattle.ps_core.specs.Scripts.{AreLow}
 use Rattle.ps_core.specs.Altering.{altered_oldest, has_data}
@@ -71,6 +71,7 @@ event_of name (Local change) = events.Local name change.now
 event_of name Upload = events.Upload name
 event_of name Number = events.Number name
 event_of name Rows = events.Rows name
+event_of name Early = events.Early name
 
 -- a local write's table is not empty
 abbrev pub HasTable : Visit → Type 0
@@ -83,6 +84,7 @@ HasTable (Local change) = change.now.table ≢ []
 HasTable Upload = Unit {0}
 HasTable Number = Unit {0}
 HasTable Rows = Unit {0}
+HasTable Early = Unit {0}
 
 -- this is the client of a name
 pub record IsAt (fixed : Fixed) (play : Play) (name : List ℕ) (store : Store) (own : Reader) : Type 0 where

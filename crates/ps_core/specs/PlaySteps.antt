@@ -4,14 +4,14 @@ use Rattle.ps_definitions.specs.RuleSets.{RuleSet}
 use Rattle.ps_store.specs.declared.fixed.Fixed.{Fixed}
 use Rattle.ps_streams.specs.Lives.{Link, Idle, Streaming}
 use Rattle.ps_script.specs.declared.events.ScriptEvent.{ScriptEvent}
-use Rattle.ps_script.specs.declared.events.ScriptEvent.TheVariants.{Feed, Close, Write, Commit, Compact, Client, Open, Turn, Take, Cut, Alter, Local, Upload, Number, Rows, Totals, Deploy, Build, Switch, Abandon}
+use Rattle.ps_script.specs.declared.events.ScriptEvent.TheVariants.{Feed, Close, Write, Commit, Compact, Client, Open, Turn, Take, Cut, Alter, Local, Upload, Number, Rows, Early, Totals, Deploy, Build, Switch, Abandon}
 use Rattle.ps_script.specs.declared.faults.ScriptFault.{ScriptFault}
 use Rattle.ps_script.specs.declared.faults.ScriptFault.TheVariants.{BadEvent, UnknownClient, WrongPhase}
 use Rattle.ps_core.specs.declared.effects.Effect.TheVariants as effects
 use Rattle.ps_core.specs.Altering.{has_data}
 use Rattle.ps_core.specs.Plays.{Play, Reader, Outcome, first_reader, ledger}
 use Rattle.ps_core.specs.StoreEvents.{feeds, closes, writes, commits, compacts, tells_totals, DeploysNext, builds, switches, abandons}
-use Rattle.ps_core.specs.ReaderEvents.{Opens, Turns, TakesLine, TellsRows, altered_in, becomes, cut, numbers_for, uploads, writes_locally}
+use Rattle.ps_core.specs.ReaderEvents.{Opens, Turns, TakesLine, TellsRows, TellsEarly, altered_in, becomes, cut, numbers_for, uploads, writes_locally}
 
 -- ---- refusals
 
@@ -78,6 +78,7 @@ refusal play (Local name change) = untabled change.table (play.readers name)
 refusal play (Upload name) = unknown (play.readers name)
 refusal play (Number name) = unknown_or_nameless (play.readers name)
 refusal play (Rows name) = unknown (play.readers name)
+refusal play (Early name) = unknown (play.readers name)
 refusal play Totals = None
 refusal play Deploy = ruleless play.next
 refusal play (Build limit) = uncounted limit
@@ -123,6 +124,7 @@ Gives fixed play (Local name change) outcome = OfReader name play (λ reader. ou
 Gives fixed play (Upload name) outcome = OfReader name play (λ reader. outcome ≡ uploads fixed name play reader)
 Gives fixed play (Number name) outcome = OfReader name play (λ reader. NumbersAs fixed reader.asker.client name play reader outcome)
 Gives fixed play (Rows name) outcome = OfReader name play (λ reader. TellsRows play reader outcome)
+Gives fixed play (Early name) outcome = OfReader name play (λ reader. TellsEarly play reader outcome)
 Gives fixed play Totals outcome = outcome ≡ tells_totals fixed play
 Gives fixed play Deploy outcome = DeploysNext fixed play.next play outcome
 Gives fixed play (Build limit) outcome = outcome ≡ builds fixed limit play

@@ -85,6 +85,7 @@ pub record Turns (fixed : Fixed) (at : ℕ) (session : SessionState) (waiting : 
 abbrev pub event_effect : ClientEvent → Effect
 event_effect saying.Nothing = effects.Nothing
 event_effect (saying.Applied op) = effects.Applied op
+event_effect (saying.PartlyApplied priority op) = effects.Part priority op
 event_effect (saying.Held why) = effects.Held why
 event_effect (saying.Refused buckets) = effects.Refused buckets
 event_effect (saying.Expiring seconds) = effects.Nothing
@@ -101,6 +102,7 @@ fault_effect faults.Memory = effects.BadLine
 abbrev pub link_after_event : ClientEvent → Link → Link
 link_after_event saying.Nothing link = link
 link_after_event (saying.Applied op) link = link
+link_after_event (saying.PartlyApplied priority op) link = link
 link_after_event (saying.Held why) link = link
 link_after_event (saying.Refused buckets) link = Idle
 link_after_event (saying.Expiring seconds) link = link
@@ -180,6 +182,14 @@ numbers_for client limits l name play reader =
     else says (effects.NumberFull (last_number l reader.asker.user client)) play
 
 -- ---- rows
+
+-- the early rows of the client, if it has any
+abbrev pub early_effect : Option Early → Effect
+early_effect None = effects.NoEarly
+early_effect (Some early) = effects.EarlyRows early
+
+abbrev pub TellsEarly : Play → Reader → Outcome → Type 0
+TellsEarly play reader outcome = outcome ≡ says (early_effect reader.early) play
 
 -- the rows that the client shows, by kind and id
 pub record TellsRows (play : Play) (reader : Reader) (outcome : Outcome) : Type 0 where

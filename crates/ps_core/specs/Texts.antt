@@ -7,7 +7,7 @@ use Rattle.ps_client.specs.declared.events.Why.TheVariants.{Queue, Pending, Targ
 use Rattle.ps_lines.specs.Writing.{IsWritable, text_of}
 use Rattle.ps_data.specs.Documents.{quoted_of}
 use Rattle.ps_core.specs.declared.effects.Effect.{Effect}
-use Rattle.ps_core.specs.declared.effects.Effect.TheVariants.{Fed, FedNotRising, FedClosed, Closed, Wrote, NothingToWrite, TooWide, OpsFull, Committed, NothingToCommit, Compacted, NoBucket, Client, Opened, Line, Waiting, Passed, TooMany, Nothing, Applied, Held, Refused, OutOfOrder, BadLine, NoLine, Cut, Altered, Local, Uploaded, QueueEmpty, PositionsFull, Number, NumberFull, Rows, Totals, Generation, Building, GenerationsFull, Built, NothingBuilding, NothingToBuild, NotBuilt, HalfWritten, Abandoned}
+use Rattle.ps_core.specs.declared.effects.Effect.TheVariants.{Fed, FedNotRising, FedClosed, Closed, Wrote, NothingToWrite, TooWide, OpsFull, Committed, NothingToCommit, Compacted, NoBucket, Client, Opened, Line, Waiting, Passed, TooMany, Nothing, Applied, Part, Held, Refused, OutOfOrder, BadLine, NoLine, Cut, Altered, Local, Uploaded, QueueEmpty, PositionsFull, Number, NumberFull, Rows, EarlyRows, NoEarly, Totals, Generation, Building, GenerationsFull, Built, NothingBuilding, NothingToBuild, NotBuilt, HalfWritten, Abandoned}
 
 -- ---- printed rows
 
@@ -62,6 +62,7 @@ effect_text (Passed op) = line_of (codes "passed") (decimal op.0 ∷ [])
 effect_text (TooMany count) = line_of (codes "too many") (decimal count ∷ [])
 effect_text Nothing = line_of (codes "nothing") []
 effect_text (Applied op) = line_of (codes "applied") (decimal op.0 ∷ [])
+effect_text (Part priority op) = line_of (codes "part") (decimal priority ∷ decimal op.0 ∷ [])
 effect_text (Held why) = line_of (codes "held") (why_words why)
 effect_text (Refused buckets) = line_of (codes "refused") (flat_map differing_words buckets)
 effect_text OutOfOrder = line_of (codes "out of order") []
@@ -76,6 +77,8 @@ effect_text (PositionsFull head) = line_of (codes "positions full") (decimal hea
 effect_text (Number number head) = line_of (codes "number") (decimal number ∷ codes "head" ∷ decimal head.0 ∷ [])
 effect_text (NumberFull last) = line_of (codes "number full") (decimal last ∷ [])
 effect_text (Rows rows) = line_of (codes "rows") (decimal (length rows) ∷ []) ++ rows_text rows
+effect_text (EarlyRows early) = line_of (codes "early") (decimal early.priority ∷ decimal (length early.rows) ∷ []) ++ rows_text early.rows
+effect_text NoEarly = line_of (codes "no early") []
 effect_text (Totals totals) =
     line_of (codes "transactions") (decimal totals.transactions ∷ codes "changes" ∷ decimal totals.changes ∷ codes "operations" ∷ decimal totals.operations ∷ codes "buckets" ∷ decimal totals.buckets
     ∷ codes "sum" ∷ decimal totals.sum.0 ∷ [])

@@ -31,6 +31,7 @@ pub(crate) fn is_data(line: &Line) -> bool
         Line::Data { .. } => true,
         Line::Checkpoint { .. }
         | Line::Diff { .. }
+        | Line::Partial { .. }
         | Line::Complete { .. }
         | Line::Expires { .. }
         | Line::Unknown => false,

@@ -1,5 +1,5 @@
 use crate::writable_lines::WritableLine;
-use ps_client::{Differing, Why};
+use ps_client::{Differing, Early, Why};
 use ps_compact::Report;
 use ps_data::{Items, OpId, Position, Text};
 use ps_rows::Shown;
@@ -96,7 +96,14 @@ pub enum Effect {
         /// The newest operation that the checkpoint covers.
         op: OpId,
     },
-    /// A client has a whole checkpoint, and local writes keep it from being applied.
+    /// A client has all of a checkpoint's buckets of at most a priority: their rows are its early rows.
+    Part {
+        /// The priority, from 0, the most urgent, to 3.
+        priority: u8,
+        /// The newest operation that the checkpoint covers.
+        op: OpId,
+    },
+    /// A client has a whole checkpoint or a part of it, and local writes keep it from being applied.
     Held {
         /// What they wait for.
         why: Why,
@@ -153,6 +160,13 @@ pub enum Effect {
         /// The rows, by type and id.
         rows: Items<Shown>,
     },
+    /// The early rows of a client.
+    EarlyRows {
+        /// Their priority, and the rows by type and id.
+        early: Early,
+    },
+    /// A client has no early rows.
+    NoEarly,
     /// What was fed and written so far.
     Totals {
         /// In numbers.

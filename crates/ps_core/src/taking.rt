@@ -39,6 +39,10 @@ fn said(event: Event) -> Answer
             effect: Effect::Applied { op },
             over: false,
         },
+        Event::PartlyApplied { priority, op } => Answer {
+            effect: Effect::Part { priority, op },
+            over: false,
+        },
         Event::Held { why } => Answer {
             effect: Effect::Held { why },
             over: false,
@@ -107,6 +111,17 @@ pub(crate) fn take(alloc: Global, reader: &mut Reader) -> Result<Effect, ScriptF
             Ok(effect)
         }
         Err(Memory) => Err(ScriptFault::Memory),
+    }
+}
+
+// The early rows of the client, if it has any.
+pub(crate) fn early(alloc: Global, reader: &Reader) -> Result<Effect, Memory>
+    ensures { IfOk result (λ effect. (fixed : FixedSeen) (play : Play) (name : List ℕ) (store : StoreSeen) → IsAt fixed play name store reader.now
+        → CameTo fixed play (events.Early name) name store reader.now effect) }
+{
+    match reader.client.early_rows(alloc)? {
+        Some(early) => Ok(Effect::EarlyRows { early }),
+        None => Ok(Effect::NoEarly),
     }
 }
 

@@ -94,6 +94,18 @@ fn refused(alloc: Global, buckets: &[Differing]) -> Result<Vec<u8>, Memory>
     Ok(out)
 }
 
+fn shown_early(alloc: Global, early: &Early) -> Result<Vec<u8>, Memory>
+    ensures { IfOk result (λ text. text.items ≡ text_of_effect (Effect.EarlyRows early.now)) }
+{
+    let mut out = words(
+        alloc,
+        "early",
+        &[u64::from(early.priority), early.rows.len() as u64],
+    )?;
+    push_rows(alloc, &mut out, early.rows.as_slice())?;
+    Ok(out)
+}
+
 fn shown(alloc: Global, rows: &[Shown]) -> Result<Vec<u8>, Memory>
     ensures { IfOk result (λ text. text.items ≡ text_of_effect (Effect.Rows rows.now)) }
 {
@@ -153,6 +165,7 @@ pub fn effect_text(alloc: Global, effect: &Effect) -> Result<Vec<u8>, Memory>
         Effect::TooMany { count } => numbered(alloc, "too many", *count),
         Effect::Nothing => fixed(alloc, "nothing"),
         Effect::Applied { op } => numbered(alloc, "applied", op.0),
+        Effect::Part { priority, op } => words(alloc, "part", &[u64::from(*priority), op.0]),
         Effect::Held { why } => held(alloc, *why),
         Effect::Refused { buckets } => refused(alloc, buckets.as_slice()),
         Effect::OutOfOrder => fixed(alloc, "out of order"),
@@ -170,6 +183,8 @@ pub fn effect_text(alloc: Global, effect: &Effect) -> Result<Vec<u8>, Memory>
         }
         Effect::NumberFull { last } => numbered(alloc, "number full", *last),
         Effect::Rows { rows } => shown(alloc, rows.as_slice()),
+        Effect::EarlyRows { early } => shown_early(alloc, early),
+        Effect::NoEarly => Ok(format!(in alloc; "no early\n")?),
         Effect::Totals { totals } => counted(alloc, *totals),
         Effect::Generation { generation } => {
             numbered(alloc, "generation", u64::from(*generation))

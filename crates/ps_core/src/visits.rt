@@ -9,7 +9,7 @@ use crate::altering::alter;
 use crate::effects::Effect;
 use crate::readers::Reader;
 use crate::streaming::{cut, open, turn};
-use crate::taking::{rows, take};
+use crate::taking::{early, rows, take};
 use crate::writing::{number, upload, write_locally};
 use ps_data::{Memory, Text};
 use ps_rows::Change;
@@ -29,6 +29,7 @@ pub(crate) enum Visit<'a> {
     Upload,
     Number,
     Rows,
+    Early,
 }
 
 // Out of memory as a fault of the script.
@@ -64,5 +65,6 @@ pub(crate) fn act(
         Visit::Upload => or_fault(upload(alloc, store, reader)),
         Visit::Number => number(alloc, store, reader),
         Visit::Rows => or_fault(rows(alloc, reader)),
+        Visit::Early => or_fault(early(alloc, reader)),
     }
 }

@@ -268,6 +268,7 @@ impl World {
             ScriptEvent::Upload { name } => self.ask(alloc, name, Visit::Upload),
             ScriptEvent::Number { name } => self.ask(alloc, name, Visit::Number),
             ScriptEvent::Rows { name } => self.ask(alloc, name, Visit::Rows),
+            ScriptEvent::Early { name } => self.ask(alloc, name, Visit::Early),
             ScriptEvent::Totals => Ok(self.totals()),
             ScriptEvent::Deploy => self.deploy(alloc),
             ScriptEvent::Build { limit } => self.build(alloc, *limit),

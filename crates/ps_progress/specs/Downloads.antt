@@ -3,7 +3,7 @@ use Rattle.std.specs.Prelude.{ℕ, ◌+◌, ◌^◌, ◌/◌, nat_lt, Bool, fals
 use Rattle.ps_lines.specs.declared.faults.LineFault.{LineFault}
 use Rattle.ps_lines.specs.declared.lines.Entry.{Entry}
 use Rattle.ps_lines.specs.declared.lines.Line.{Line}
-use Rattle.ps_lines.specs.declared.lines.Line.TheVariants.{Checkpoint, Diff, Data, Complete, Expires, Unknown}
+use Rattle.ps_lines.specs.declared.lines.Line.TheVariants.{Checkpoint, Diff, Data, Partial, Complete, Expires, Unknown}
 use Rattle.ps_progress.specs.declared.downloads.Download.{Download}
 
 -- a number that 64 bits hold
@@ -26,6 +26,7 @@ abbrev pub after_line : Line → Option Download → Option Download
 after_line (Checkpoint last_op number buckets) so_far = option_map (λ of. record { taken = 0; of = of }) (within (counts_of buckets))
 after_line (Diff last_op number removed updated) so_far = None
 after_line (Data bucket after has_more ops next_after) so_far = more_of (length ops) so_far
+after_line (Partial last_op priority) so_far = so_far
 after_line (Complete last_op) so_far = so_far
 after_line (Expires seconds) so_far = so_far
 after_line Unknown so_far = so_far

@@ -64,7 +64,8 @@ pub(crate) fn after(line: &Line, so_far: Option<Download>) -> Option<Download>
             ops,
             next_after: _,
         } => more(so_far, ops.len()),
-        Line::Complete { .. } | Line::Expires { .. } | Line::Unknown => so_far,
+        Line::Partial { .. } | Line::Complete { .. } | Line::Expires { .. } | Line::Unknown =>
+            so_far,
     }
 }
 

@@ -5,7 +5,7 @@ use Rattle.ps_rows.specs.declared.changes.Change.{Change}
 use Rattle.ps_claims.specs.Claims.{asker_of_claims}
 use Rattle.ps_queries.specs.declared.askers.Asker.{Asker}
 use Rattle.ps_script.specs.declared.events.ScriptEvent.{ScriptEvent}
-use Rattle.ps_script.specs.declared.events.ScriptEvent.TheVariants.{Feed, Close, Write, Commit, Compact, Client, Open, Turn, Take, Cut, Alter, Local, Upload, Number, Rows, Totals, Deploy, Build, Switch, Abandon}
+use Rattle.ps_script.specs.declared.events.ScriptEvent.TheVariants.{Feed, Close, Write, Commit, Compact, Client, Open, Turn, Take, Cut, Alter, Local, Upload, Number, Rows, Early, Totals, Deploy, Build, Switch, Abandon}
 use Rattle.ps_script.specs.Words.{IsCount, IsName}
 
 -- a line spells an event: words with one space between them; the last argument of `compact`, `client` and `local` is the rest of the line
@@ -27,6 +27,7 @@ pub data IsEvent : List ℕ → ScriptEvent → Type 0 where
   uploads : (name : List ℕ) → IsName name → IsEvent (codes "upload " ++ name) (Upload name)
   numbers : (name : List ℕ) → IsName name → IsEvent (codes "number " ++ name) (Number name)
   shows_rows : (name : List ℕ) → IsName name → IsEvent (codes "rows " ++ name) (Rows name)
+  shows_early : (name : List ℕ) → IsName name → IsEvent (codes "early " ++ name) (Early name)
   sums_up : IsEvent (codes "totals") Totals
   deploys : IsEvent (codes "deploy") Deploy
   builds : (limit : ℕ) → IsCount limit → IsEvent (codes "build " ++ decimal limit) (Build limit)

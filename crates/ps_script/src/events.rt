@@ -78,6 +78,11 @@ pub enum ScriptEvent {
         /// The client's name in the script.
         name: Text,
     },
+    /// Show the early rows of a client.
+    Early {
+        /// The client's name in the script.
+        name: Text,
+    },
     /// Sum up the store.
     Totals,
     /// Begin a generation of the next rules.

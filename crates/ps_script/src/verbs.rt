@@ -16,6 +16,7 @@ pub enum Verb {
     Upload,
     Number,
     Rows,
+    Early,
 }
 
 pub fn read_verb(word: &[u8]) -> Option<Verb>
@@ -45,6 +46,9 @@ pub fn read_verb(word: &[u8]) -> Option<Verb>
     if word == b"rows".as_slice() {
         return Some(Verb::Rows);
     }
+    if word == b"early".as_slice() {
+        return Some(Verb::Early);
+    }
     None
 }
 
@@ -62,6 +66,7 @@ impl Verb {
             Verb::Upload => ScriptEvent::Upload { name },
             Verb::Number => ScriptEvent::Number { name },
             Verb::Rows => ScriptEvent::Rows { name },
+            Verb::Early => ScriptEvent::Early { name },
         }
     }
 }

@@ -8,7 +8,7 @@ use Rattle.ps_lines.specs.declared.lines.Line.{Line}
 use Rattle.ps_lines.specs.Reading.{line_of}
 use Rattle.ps_lines.specs.Writing.{IsWritable, without_targets}
 use Rattle.ps_client.specs.declared.events.Event.{Event}
-use Rattle.ps_client.specs.declared.events.Event.TheVariants.{Nothing, Applied, Held, Refused, Expiring}
+use Rattle.ps_client.specs.declared.events.Event.TheVariants.{Nothing, Applied, PartlyApplied, Held, Refused, Expiring}
 use Rattle.ps_client.specs.declared.faults.ClientFault.{ClientFault}
 use Rattle.ps_client.specs.declared.faults.ClientFault.TheVariants.{OutOfOrder, BadLine, KeeperFault, QueueEmpty, QueueWaiting, Memory}
 use Rattle.ps_client.specs.Clients.{PlainClient, taken, line_taken}
@@ -77,6 +77,7 @@ pub record IsShown (course : Course) (at : ℕ) (op : OpId) (old new : PlainClie
 abbrev pub IsRightEvent : Course → ℕ → PlainClient → PlainClient → Event → Type 0
 IsRightEvent course at old new Nothing = Unit {0}
 IsRightEvent course at old new (Applied op) = IsShown course at op old new
+IsRightEvent course at old new (PartlyApplied priority op) = Unit {0}
 IsRightEvent course at old new (Held why) = Unit {0}
 IsRightEvent course at old new (Refused buckets) = ⊥
 IsRightEvent course at old new (Expiring seconds) = Unit {0}

@@ -1,5 +1,5 @@
 -- What is left to send of a checkpoint.
-use Rattle.std.specs.Prelude.{◌≡◌, ℕ, ◌+◌, ◌-◌, ◌<◌, List, [], ◌∷◌, Some, option_map}
+use Rattle.std.specs.Prelude.{◌≡◌, ℕ, ◌+◌, ◌-◌, ◌<◌, List, [], ◌∷◌, Option, Some, None, option_map}
 use Rattle.ps_data.specs.declared.ids.OpId.{OpId}
 use Rattle.ps_bucket_log.specs.declared.takes.TakenBucket.{TakenBucket}
 use Rattle.ps_store.specs.Courses.{Course}
@@ -15,8 +15,13 @@ abbrev pub left_of : List TakenBucket → (List ℕ → ℕ) → ℕ
 left_of [] places = 0
 left_of (bucket ∷ buckets) places = (bucket.newest.0 - places bucket.name) + left_of buckets places
 
+-- how many parts may still be told
+abbrev pub parts_left : Option ℕ → ℕ
+parts_left None = 4
+parts_left (Some told) = 3 - told
+
 abbrev pub left : SessionState → ℕ
-left session = left_of session.last.buckets session.places
+left session = left_of session.last.buckets session.places + parts_left session.told
 
 -- the checkpoint is still sent, and less of it is left
 pub record SendsOn (before now : SessionState) : Type 0 where

@@ -11,11 +11,14 @@ use Rattle.ps_client_log.specs.Kept.{Kept}
 use Rattle.ps_client_log.specs.Rows.{AreInOrder, row_at}
 use Rattle.ps_lines.specs.Writing.{IsWritable, without_targets}
 use Rattle.ps_client.specs.declared.events.Event.{Event}
-use Rattle.ps_client.specs.declared.events.Event.TheVariants.{Nothing, Applied, Held, Refused, Expiring}
+use Rattle.ps_client.specs.declared.events.Event.TheVariants.{Nothing, Applied, PartlyApplied, Held, Refused, Expiring}
 use Rattle.ps_client.specs.declared.faults.ClientFault.{ClientFault}
 use Rattle.ps_client.specs.declared.streams.Stream.{Stream}
 use Rattle.ps_client.specs.declared.streams.Stream.TheVariants.{Asked}
 use Rattle.ps_client.specs.Clients.{PlainClient, taken}
+use Rattle.ps_client.specs.declared.early.Early.{Early}
+use Rattle.ps_client.specs.EarlyRows.{AreEarly, told_by}
+use Rattle.ps_client.specs.Tables.{Entries}
 use Rattle.ps_client.specs.Taking.{Rows, AreHeld}
 use Rattle.ps_store.specs.Courses.{Course, Upload}
 use Rattle.ps_store.specs.CourseLaws.{IsLawful, IsHonestAt, CoversAt}
@@ -79,24 +82,30 @@ pub record IsApplied (course : Course) (at : ℕ) (op : OpId) (kept : Kept) : Ty
   pub rows : (rows : Rows) (listed : List Shown) → AreHeld kept rows → AreListed rows listed → listed ≡ course.due at
   pub uploads : (upload : Upload) → Contains course.uploads upload → CoversAt (course.take at) upload
 
-abbrev pub IsGoodEvent : Course → ℕ → Kept → Event → Type 0
-IsGoodEvent course at kept Nothing = Unit {0}
-IsGoodEvent course at kept (Applied op) = IsApplied course at op kept
-IsGoodEvent course at kept (Held why) = Unit {0}
-IsGoodEvent course at kept (Refused buckets) = ⊥
-IsGoodEvent course at kept (Expiring seconds) = Unit {0}
+-- a part of the checkpoint that was taken at a place is there: the early rows are exactly those that are due there by the rules up to its priority
+pub record IsPartlyApplied (course : Course) (at priority : ℕ) (op : OpId) (told : Entries) (kept : Kept) : Type 0 where
+  pub op_is : op.0 ≡ course.op at
+  pub rows : (early : Early) → early.priority ≡ priority → AreEarly kept told early → early.rows ≡ course.early at priority
+
+abbrev pub IsGoodEvent : Course → ℕ → Entries → Kept → Event → Type 0
+IsGoodEvent course at told kept Nothing = Unit {0}
+IsGoodEvent course at told kept (Applied op) = IsApplied course at op kept
+IsGoodEvent course at told kept (PartlyApplied priority op) = IsPartlyApplied course at priority op told kept
+IsGoodEvent course at told kept (Held why) = Unit {0}
+IsGoodEvent course at told kept (Refused buckets) = ⊥
+IsGoodEvent course at told kept (Expiring seconds) = Unit {0}
 
 -- what a client may answer to a line
-abbrev pub IsGood : Course → ℕ → Kept → Result Event ClientFault → Type 0
-IsGood course at kept (Ok event) = IsGoodEvent course at kept event
-IsGood course at kept (Err fault) = ⊥
+abbrev pub IsGood : Course → ℕ → Entries → Kept → Result Event ClientFault → Type 0
+IsGood course at told kept (Ok event) = IsGoodEvent course at told kept event
+IsGood course at told kept (Err fault) = ⊥
 
 -- each line can be written, so that it is read again without its targets; the client takes it so, with local writes before it. Each
 -- answer is good, and the client is honest throughout
 abbrev pub Meets : Course → ℕ → PlainClient → List Made → Type 0
 Meets course end client [] = AreHonest course end client.kept.bucket
 Meets course end client (m ∷ ms) = AreHonest course end client.kept.bucket × IsWritable m.line
-    × ((local : Local) → IsGood course m.at (with_local local client).kept (taken (with_local local client) (without_targets m.line)).answer
+    × ((local : Local) → IsGood course m.at (told_by client.stream) (with_local local client).kept (taken (with_local local client) (without_targets m.line)).answer
     × Meets course end (taken (with_local local client) (without_targets m.line)).client ms)
 
 -- ---- the theorem

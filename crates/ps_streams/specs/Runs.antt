@@ -1,5 +1,5 @@
 -- A run of a session over a course of readings: its turns, and the lines that they make.
-use Rattle.std.specs.Prelude.{ℕ, ◌≤◌, List, [], ◌∷◌, Option, Some, None}
+use Rattle.std.specs.Prelude.{ℕ, ◌≤◌, if◌then◌else◌, is_some, List, [], ◌∷◌, Option, Some, None}
 use Rattle.ps_bucket_log.specs.declared.batches.Batch.{Batch}
 use Rattle.ps_lines.specs.declared.lines.Line.{Line}
 use Rattle.ps_lines.specs.declared.lines.Line.TheVariants.{Expires}
@@ -8,7 +8,7 @@ use Rattle.ps_store.specs.Courses.{Course}
 use Rattle.ps_store.specs.Readings.{AreTold, taken_names}
 use Rattle.ps_session.specs.declared.phases.Phase.{Phase}
 use Rattle.ps_session.specs.declared.phases.Phase.TheVariants.{Start, Download, Void, Done}
-use Rattle.ps_session.specs.Sessions.{SessionState, Turned, behind, took_in, read, finished}
+use Rattle.ps_session.specs.Sessions.{SessionState, Turned, behind, part_in, took_in, read, finished}
 
 -- ---- one turn at a place of the history
 
@@ -18,7 +18,7 @@ batch_at course n s bucket = course.batch n bucket.name (s.places bucket.name) s
 
 abbrev pub download : Option TakenBucket → Course → ℕ → SessionState → Turned
 download None course n s = finished s
-download (Some bucket) course n s = read s (batch_at course n s bucket)
+download (Some bucket) course n s = if is_some (part_in (Some bucket) s) then finished s else read s (batch_at course n s bucket)
 
 abbrev pub turn_in : Phase → Course → ℕ → SessionState → Turned
 turn_in Start course n s = took_in Start s (course.take n)

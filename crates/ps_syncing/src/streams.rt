@@ -56,7 +56,12 @@ fn take_part<P: Keeper, G: Sink>(
     match client.take_line(alloc, line) {
         Ok(Event::Applied { op: _ }) => Ok(Some(Ended::Applied)),
         Ok(Event::Refused { buckets: _ }) => Ok(Some(Ended::Refused)),
-        Ok(Event::Nothing | Event::Held { why: _ } | Event::Expiring { seconds: _ }) => {
+        Ok(
+            Event::Nothing
+            | Event::PartlyApplied { priority: _, op: _ }
+            | Event::Held { why: _ }
+            | Event::Expiring { seconds: _ },
+        ) => {
             meter.heed(alloc, line);
             Ok(None)
         }
