@@ -2,6 +2,7 @@
 use Rattle.std.specs.Prelude.{ℕ, Bool, false, if◌then◌else◌, List, [], ◌∷◌, ◌++◌, length, Option, Some, None, bytes_eq}
 use Rattle.ps_rows.specs.declared.changes.Transaction.{Transaction}
 use Rattle.ps_client.specs.declared.streams.Stream.TheVariants.{Over}
+use Rattle.ps_client.specs.declared.early.Early.{Early}
 use Rattle.ps_client.specs.Clients.{PlainClient}
 use Rattle.ps_client_log.specs.Kept.{nothing_kept}
 use Rattle.ps_queries.specs.declared.askers.Asker.{Asker}
@@ -18,6 +19,8 @@ use Rattle.ps_core.specs.declared.effects.Effect.{Effect}
 pub record Reader : Type 0 where
   pub asker : Asker
   pub client : PlainClient
+  -- the early rows, if it has any
+  pub early : Option Early
   pub link : Link
   pub altered : Bool
 
@@ -42,7 +45,7 @@ first_play transactions next = record { history = []; left = transactions; next 
 
 -- a client that begins holds nothing, and has no stream
 abbrev pub first_reader : Asker → Reader
-first_reader asker = record { asker = asker; client = record { kept = nothing_kept; stream = Over }; link = Idle; altered = false }
+first_reader asker = record { asker = asker; client = record { kept = nothing_kept; stream = Over }; early = None; link = Idle; altered = false }
 
 -- what is known of the history
 abbrev pub ledger : Fixed → Play → Ledger

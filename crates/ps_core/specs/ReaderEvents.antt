@@ -14,6 +14,8 @@ use Rattle.ps_client.specs.declared.faults.ClientFault.TheVariants as faults
 use Rattle.ps_client.specs.declared.streams.Stream.TheVariants.{Asked}
 use Rattle.ps_client.specs.Clients.{Took, taken}
 use Rattle.ps_client.specs.LocalWrites.{aimed, keeping, popped, written}
+use Rattle.ps_client.specs.declared.early.Early.{Early}
+use Rattle.ps_client.specs.EarlyRows.{ShowsEarly, told_by}
 use Rattle.ps_client.specs.Taking.{Rows, Shows, showing}
 use Rattle.ps_store.specs.declared.events.Event.TheVariants as events
 use Rattle.ps_store.specs.declared.fixed.Fixed.{Fixed}
@@ -120,17 +122,23 @@ abbrev pub ShowsAfter : Result ClientEvent ClientFault → Kept → Rows → Typ
 ShowsAfter (Ok event) kept rows = Shows event kept rows
 ShowsAfter (Err fault) kept rows = rows ≡ kept.shown
 
+-- and has these early rows
+abbrev pub ShowsEarlyAfter : Result ClientEvent ClientFault → PlainClient → Option Early → Option Early → Type 0
+ShowsEarlyAfter (Ok event) client old new = ShowsEarly event client.kept (told_by client.stream) old new
+ShowsEarlyAfter (Err fault) client old new = new ≡ old
+
 -- the client takes a line
-abbrev pub took_outcome : Took → Rows → Link → List ℕ → Reader → Play → Outcome
-took_outcome took rows link name reader play =
-    becomes (took_effect took.answer) name (record reader { client = showing rows took.client; link = link_after_answer took.answer link }) play
+abbrev pub took_outcome : Took → Rows → Option Early → Link → List ℕ → Reader → Play → Outcome
+took_outcome took rows early link name reader play =
+    becomes (took_effect took.answer) name (record reader { client = showing rows took.client; early = early; link = link_after_answer took.answer link }) play
 
 -- the oldest line that waits, if any, as it is read
 abbrev pub TakesLine : ℕ → SessionState → List Made → List ℕ → Play → Reader → Outcome → Type 0
 TakesLine at session [] name play reader outcome = outcome ≡ says effects.NoLine play
 TakesLine at session (m ∷ ms) name play reader outcome =
     (rows : Rows) × ShowsAfter (taken reader.client (without_targets m.line)).answer reader.client.kept rows
-    × (outcome ≡ took_outcome (taken reader.client (without_targets m.line)) rows (Streaming at session ms) name reader play)
+    × (early : Option Early) × ShowsEarlyAfter (taken reader.client (without_targets m.line)).answer reader.client reader.early early
+    × (outcome ≡ took_outcome (taken reader.client (without_targets m.line)) rows early (Streaming at session ms) name reader play)
 
 -- the oldest line of data that waits is altered, and the client counts as altered for good
 abbrev pub altered_in : ℕ → SessionState → List Made → Reader → Reader

@@ -56,6 +56,7 @@ LinkStandsFor fixed history asker (Some stream) (Streaming at session waiting) =
 pub record ReaderStandsFor (fixed : Fixed) (history : List Event) (own : Reader) (reader : plays.Reader) : Type 0 where
   pub asker_is : own.asker ≡ reader.asker
   pub client_is : state own.client ≡ reader.client
+  pub early_is : early_of own.client ≡ reader.early
   pub link_is : LinkStandsFor fixed history reader.asker own.stream reader.link
 
 abbrev pub OneStandsFor : Fixed → List Event → Option Reader → Option plays.Reader → Type 0

@@ -3,7 +3,7 @@ ghost use Rattle.ps_core.specs.Texts.{after_words, differing_words, effect_text 
 
 use crate::Effect;
 use crate::printing::push_rows;
-use ps_client::{Differing, Why};
+use ps_client::{Differing, Early, Why};
 use ps_compact::Report;
 use ps_data::{Memory, Position, Text};
 use ps_lines::write_line;
@@ -31,6 +31,12 @@ fn numbered(alloc: Global, words: &str, number: u64) -> Result<Vec<u8>, Memory>
     ensures { IfOk result (λ text. text.items ≡ line_of words.now (decimal number ∷ [])) }
 {
     Ok(format!(in alloc; "{words} {number}\n")?.into_bytes())
+}
+
+fn two_numbers(alloc: Global, words: &str, first: u64, second: u64) -> Result<Vec<u8>, Memory>
+    ensures { IfOk result (λ text. text.items ≡ line_of words.now (decimal first ∷ decimal second ∷ [])) }
+{
+    Ok(format!(in alloc; "{words} {first} {second}\n")?.into_bytes())
 }
 
 fn not_rising(alloc: Global, count: u64, last: Position, given: Position) -> Result<Vec<u8>, Memory>
@@ -165,7 +171,7 @@ pub fn effect_text(alloc: Global, effect: &Effect) -> Result<Vec<u8>, Memory>
         Effect::TooMany { count } => numbered(alloc, "too many", *count),
         Effect::Nothing => fixed(alloc, "nothing"),
         Effect::Applied { op } => numbered(alloc, "applied", op.0),
-        Effect::Part { priority, op } => words(alloc, "part", &[u64::from(*priority), op.0]),
+        Effect::Part { priority, op } => two_numbers(alloc, "part", u64::from(*priority), op.0),
         Effect::Held { why } => held(alloc, *why),
         Effect::Refused { buckets } => refused(alloc, buckets.as_slice()),
         Effect::OutOfOrder => fixed(alloc, "out of order"),
