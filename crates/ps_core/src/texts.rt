@@ -103,10 +103,11 @@ fn refused(alloc: Global, buckets: &[Differing]) -> Result<Vec<u8>, Memory>
 fn shown_early(alloc: Global, early: &Early) -> Result<Vec<u8>, Memory>
     ensures { IfOk result (λ text. text.items ≡ text_of_effect (Effect.EarlyRows early.now)) }
 {
-    let mut out = words(
+    let mut out = two_numbers(
         alloc,
         "early",
-        &[u64::from(early.priority), early.rows.len() as u64],
+        u64::from(early.priority),
+        early.rows.len() as u64,
     )?;
     push_rows(alloc, &mut out, early.rows.as_slice())?;
     Ok(out)
