@@ -48,6 +48,7 @@ fn show_line(out: &mut String, line: &Line) -> Result<(), AllocError> {
             )?;
             show_ops(out, ops.as_slice())
         }
+        Line::Partial { last_op, priority } => write!(out, "part {priority} {}", last_op.0),
         Line::Complete { last_op } => write!(out, "complete {}", last_op.0),
         Line::Expires { seconds } => write!(out, "expires {seconds}"),
         Line::Unknown => out.push_str("unknown"),

@@ -37,6 +37,13 @@ pub fn written(alloc: Global, bytes: &[u8]) -> Result<String, Memory> {
         b"checkpoint" => checkpoint(alloc),
         b"diff" => diff(alloc),
         b"data" => data(alloc),
+        b"partial" => write_line(
+            alloc,
+            &Line::Partial {
+                last_op: OpId(7),
+                priority: 1,
+            },
+        ),
         b"complete" => write_line(alloc, &Line::Complete { last_op: OpId(7) }),
         b"expires" => write_line(alloc, &Line::Expires { seconds: 60 }),
         b"transaction" => transaction(alloc),

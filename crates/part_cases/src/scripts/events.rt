@@ -26,6 +26,7 @@ pub fn show_event(out: &mut String, event: &ScriptEvent) -> Result<(), Memory> {
         ScriptEvent::Upload { name } => push_named(out, "upload", name),
         ScriptEvent::Number { name } => push_named(out, "number", name),
         ScriptEvent::Rows { name } => push_named(out, "rows", name),
+        ScriptEvent::Early { name } => push_named(out, "early", name),
         ScriptEvent::Totals => out.push_str("totals"),
         ScriptEvent::Deploy => out.push_str("deploy"),
         ScriptEvent::Build { limit } => write!(out, "build {limit}"),

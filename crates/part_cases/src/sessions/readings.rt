@@ -42,15 +42,28 @@ pub fn known_of(alloc: Global, rest: &str) -> Result<Vec<Known>, Stop> {
     Ok(known)
 }
 
+// A priority, 3 where there is none.
+fn priority_of(word: &str) -> Result<u8, Stop> {
+    match word {
+        "" | "3" => Ok(3),
+        "0" => Ok(0),
+        "1" => Ok(1),
+        "2" => Ok(2),
+        _ => Err("no priority".into()),
+    }
+}
+
 fn bucket_of(alloc: Global, word: &str) -> Result<TakenBucket, Stop> {
     let (name, rest) = cut(word, ':');
     let (sum, rest) = cut(rest, ':');
-    let (count, newest) = cut(rest, ':');
+    let (count, rest) = cut(rest, ':');
+    let (newest, priority) = cut(rest, ':');
     Ok(TakenBucket {
         name: Text::from_str(alloc, name)?,
         sum: Sum(short_number_in(sum)?),
         count: number_in(count)?,
         newest: OpId(number_in(newest)?),
+        priority: priority_of(priority)?,
     })
 }
 

@@ -80,6 +80,7 @@ pub fn write_line(line: &Line, out: &mut String) -> Result<(), Stop> {
             write_ops(ops.as_slice(), out)?;
             Ok(write!(out, " next {}", next_after.0)?)
         }
+        Line::Partial { last_op, priority } => { Ok(write!(out, "part {priority} {}", last_op.0)?) }
         Line::Complete { last_op } => Ok(write!(out, "complete {}", last_op.0)?),
         Line::Expires { .. } | Line::Unknown => Err("no line of a session".into()),
     }
