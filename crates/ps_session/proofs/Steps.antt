@@ -211,8 +211,12 @@ other_state kept taken places beside is = λ i. record {
 
 -- nothing has changed that a line could tell
 
-same_bucket_is : (a b : TakenBucket) → same_bucket a b ≡ true → a ≡ b
-same_bucket_is a b same =
+-- buckets that no line tells apart differ in their priorities alone
+same_names : (a b : TakenBucket) → same_bucket a b ≡ true → a.name ≡ b.name
+same_names a b same = same_name a.name b.name (and_parts _ _ same).0
+
+same_bucket_is : (a b : TakenBucket) → same_bucket a b ≡ true → a.priority ≡ b.priority → a ≡ b
+same_bucket_is a b same priority =
     let p = and_parts _ _ same in
     let q = and_parts _ _ p.1 in
     let r = and_parts _ _ q.1 in
@@ -220,7 +224,7 @@ same_bucket_is a b same =
     let sum = eqb-true a.sum.0 b.sum.0 q.0 in
     let count = eqb-true a.count b.count r.0 in
     let newest = eqb-true a.newest.0 b.newest.0 r.1 in
-    λ i. record { name = name i; sum = record { 0 = sum i }; count = count i; newest = record { 0 = newest i } }
+    λ i. record { name = name i; sum = record { 0 = sum i }; count = count i; newest = record { 0 = newest i }; priority = priority i }
 
 same_buckets_are : (xs ys : List TakenBucket) → same_buckets xs ys ≡ true → xs ≡ ys
 same_buckets_are [] [] same = refl

@@ -186,7 +186,7 @@ is_upto_some : (priority : ℕ) (definitions : List Definition) (d : Definition)
 is_upto_some priority definitions d is low =
     has_contains (definitions_upto priority definitions) d (has_filter (λ (x : Definition). nat_le x.priority priority) definitions d (contains_has definitions d is) low)
 
-priority_low : (definitions : List Definition) (bucket : List ℕ) → AllByRecursion IsSoundDefinition definitions → priority_of definitions bucket ≤ 3
+pub priority_low : (definitions : List Definition) (bucket : List ℕ) → AllByRecursion IsSoundDefinition definitions → priority_of definitions bucket ≤ 3
 priority_low [] bucket sound = omega arith
 priority_low (d ∷ ds) bucket sound = by (is_bucket_of d.name bucket) (priority_low ds bucket sound.1)
   where

@@ -1,7 +1,8 @@
 -- What is taken of a store and read of it.
-use Rattle.std.proofs.Common.{◌≡◌, ℕ, suc, ◌+◌, ◌*◌, ◌≤◌, ◌<◌, Bool, true, false, cond, Option, Some, None, option_map, List, [], ◌∷◌, ◌++◌, refl, sym, ap, ◌∙◌, subst, length, map, filter, flat_map, take, arith, append_assoc, append-nil, inl, inr}
+use Rattle.std.proofs.Common.{◌≡◌, ℕ, suc, ◌+◌, ◌*◌, ◌≤◌, ◌<◌, Bool, true, false, cond, Option, Some, None, option_map, List, [], ◌∷◌, ◌++◌, refl, sym, ap, ◌∙◌, subst, length, map, filter, flat_map, take, drop, arith, append_assoc, append-nil, inl, inr}
 use Rattle.std.specs.Prelude.{nat_le, bytes_eq, ◌&&◌, if◌then◌else◌, is_some, Result, Ok, Err, IfOk}
 use Rattle.std.specs.Cmp.Lexicographic.{slice_cmp}
+use Rattle.std.specs.List.{AllByRecursion}
 use Rattle.std.specs.List.Sorted.{IsStrictlySortedBy}
 use Rattle.std.specs.Ordering.{nat_cmp}
 use Rattle.ps_data.specs.declared.columns.Column.{Column}
@@ -49,7 +50,7 @@ use Rattle.ps_store.proofs.Marks.{all_told, names_own}
 use Rattle.ps_store.proofs.OwnLogs.{log_mine}
 use Rattle.ps_store.proofs.Going.{IsWell, well_history}
 use Rattle.ps_data.proofs.Members.{Has}
-use Rattle.ps_store.proofs.CourseReadings.{marked_rise}
+use Rattle.ps_store.proofs.CourseReadings.{marked_rise, priority_low}
 use Rattle.ps_data.proofs.Rising.{rises_sorted}
 use Rattle.ps_definitions.proofs.NamesInOrder.{name_cmp, in_order_rises}
 
@@ -113,6 +114,12 @@ length_map f (x ∷ xs) = ap suc (length_map f xs)
 pub names_kept : (op : ℕ) (rank : List ℕ → ℕ) (log : List ℕ → List Op) (names : List (List ℕ)) → names ≡ map (λ (b : TakenBucket). b.name) (map (λ (name : List ℕ). bucket_upto op rank name (log name)) names)
 names_kept op rank log [] = refl
 names_kept op rank log (name ∷ names) = ap (λ ns. name ∷ ns) (names_kept op rank log names)
+
+-- what is taken of buckets has their priorities
+all_urgent : (op : ℕ) (rank : List ℕ → ℕ) (log : List ℕ → List Op) → ((name : List ℕ) → rank name ≤ 3) → (names : List (List ℕ))
+    → AllByRecursion (λ (b : TakenBucket). b.priority ≤ 3) (map (λ (name : List ℕ). bucket_upto op rank name (log name)) names)
+all_urgent op rank log low [] = tt
+all_urgent op rank log low (name ∷ names) = (low name, all_urgent op rank log low names)
 
 -- functions that give the same of each name
 same_at : (f g : List ℕ → TakenBucket) (names : List (List ℕ)) → ((name : List ℕ) → Has names name → f name ≡ g name) → map f names ≡ map g names
@@ -254,6 +261,8 @@ module _ (fixed : Fixed) (store : Store) (history : List Event) (h : StoreStands
             few = few_are rank buckets few are;
             rise = subst (IsStrictlySortedBy (slice_cmp nat_cmp)) named
                 (rises_sorted name_cmp (names_of l asker) (marked_rise l.force.number (bucket_names l.force.rules.definitions asker rows) (in_order_rises (flat_map (definition_names asker rows) l.force.rules.definitions))));
+            urgent = subst (AllByRecursion (λ (b : TakenBucket). b.priority ≤ 3)) (sym all)
+                (all_urgent l.op (rank_of l.force) l.log (λ name. priority_low l.force.rules.definitions (drop (length (mark_of l.force.number)) name) well.force.are.sound) (names_of l asker));
             told = subst AreTold named (all_told l.force.number l.force.rules asker rows number_low well.force.are (subst ArePlainTold plain_are told));
           }
 

@@ -77,12 +77,13 @@ take_of l asker = record {
 abbrev pub taken_names : Taken → List (List ℕ)
 taken_names taken = map (λ (bucket : TakenBucket). bucket.name) taken.buckets
 
--- a checkpoint was taken: that of the ledger, of at most as many buckets as the limit; their names rise, and each is of a vector of
--- integers of signed 64 bits
+-- a checkpoint was taken: that of the ledger, of at most as many buckets as the limit; their names rise, their priorities are from 0 to 3, and
+-- each is of a vector of integers of signed 64 bits
 pub record IsTaken (limits : Limits) (l : Ledger) (asker : Asker) (taken : Taken) : Type 0 where
   pub value : taken ≡ take_of l asker
   pub few : length taken.buckets ≤ limits.buckets
   pub rise : IsStrictlySortedBy (slice_cmp nat_cmp) (taken_names taken)
+  pub urgent : AllByRecursion (λ (bucket : TakenBucket). bucket.priority ≤ 3) taken.buckets
   pub told : AreTold (taken_names taken)
 
 -- there are more buckets than the limit

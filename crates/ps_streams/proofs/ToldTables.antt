@@ -183,7 +183,7 @@ same_number-is (Some a) (Some b) same = ap Some (eqb-true a b same)
 abbrev bucket_from : List ℕ → ℕ → ℕ → ℕ → TakenBucket
 bucket_from name sum count newest = record { name = name; sum = record { 0 = sum }; count = count; newest = record { 0 = newest } }
 
-same_bucket-is : (a b : TakenBucket) → same_bucket a b ≡ true → a ≡ b
+same_bucket-is : (a b : TakenBucket) → same_bucket a b ≡ true → a.priority ≡ b.priority → a ≡ b
 same_bucket-is a b same =
     let p = and_parts _ _ same in
     let q = and_parts _ _ p.1 in

@@ -49,8 +49,9 @@ use Rattle.ps_streams.proofs.Ties.{Goes, with_reader, honest_later, honest_where
 is_in-none : (buckets : List TakenBucket) (name : List ℕ) → bucket_in name buckets ≡ None → is_in buckets name ≡ false
 is_in-none buckets name is = ap is_some is
 
-pub priorities_fit : (buckets : List TakenBucket) → All (λ (entry : Entry). entry.priority ≤ 3) (map entry_of buckets)
-priorities_fit buckets = All-map (λ (entry : Entry). entry.priority ≤ 3) entry_of buckets (λ k d low. omega arith)
+pub priorities_fit : (buckets : List TakenBucket) → AllByRecursion (λ (b : TakenBucket). b.priority ≤ 3) buckets → All (λ (entry : Entry). entry.priority ≤ 3) (map entry_of buckets)
+priorities_fit [] low = All-nil (λ (entry : Entry). entry.priority ≤ 3)
+priorities_fit (bucket ∷ buckets) low = All-cons (λ (entry : Entry). entry.priority ≤ 3) (entry_of bucket) (map entry_of buckets) low.0 (priorities_fit buckets low.1)
 
 -- a checkpoint is given up behind a target past its op alone
 pub data Follows (op : OpId) (target : Option OpId) : Type 0 where

@@ -59,3 +59,8 @@ returns-clause-writable g c =
     (take_writes r.0 (r.1 ++ e.0) asker r.2 session (g.met.R.Readings.valid c.take.new.self r.0 (r.1 ++ e.0) e.2)
     (under_way_later c.places_are_fronts.ensures.stay r.0 r.1 e.0 asker r.2 session r.4) c.in_ok-taken.taken it c.requires.action
     c.calls_make_turns.ensures.takes c.places_are_fronts.ensures.whole c.calls_make_turns.ensures.writable c.courses_are_lawful.ensures c.in_ok-line.line c.in_ok-line.ensures.line)
+
+pub took-requires-clause-urgent : goal.took-requires-clause-urgent
+took-requires-clause-urgent g c =
+    let r = c.requires.here in
+    (c.in_ok-taken.ensures r.0 r.1 r.3).3.urgent
