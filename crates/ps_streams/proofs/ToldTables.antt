@@ -180,16 +180,16 @@ same_number-is None (Some b) same = cc
 same_number-is (Some a) None same = cc
 same_number-is (Some a) (Some b) same = ap Some (eqb-true a b same)
 
-abbrev bucket_from : List ℕ → ℕ → ℕ → ℕ → TakenBucket
-bucket_from name sum count newest = record { name = name; sum = record { 0 = sum }; count = count; newest = record { 0 = newest } }
+abbrev bucket_from : List ℕ → ℕ → ℕ → ℕ → ℕ → TakenBucket
+bucket_from name sum count newest priority = record { name = name; sum = record { 0 = sum }; count = count; newest = record { 0 = newest }; priority = priority }
 
 same_bucket-is : (a b : TakenBucket) → same_bucket a b ≡ true → a.priority ≡ b.priority → a ≡ b
-same_bucket-is a b same =
+same_bucket-is a b same priority =
     let p = and_parts _ _ same in
     let q = and_parts _ _ p.1 in
     let r = and_parts _ _ q.1 in
-    let parts : bucket_from a.name a.sum.0 a.count a.newest.0 ≡ bucket_from b.name b.sum.0 b.count b.newest.0 =
-    rw (same_name a.name b.name p.0, eqb-true a.sum.0 b.sum.0 q.0, eqb-true a.count b.count r.0, eqb-true a.newest.0 b.newest.0 r.1) refl in
+    let parts : bucket_from a.name a.sum.0 a.count a.newest.0 a.priority ≡ bucket_from b.name b.sum.0 b.count b.newest.0 b.priority =
+    rw (same_name a.name b.name p.0, eqb-true a.sum.0 b.sum.0 q.0, eqb-true a.count b.count r.0, eqb-true a.newest.0 b.newest.0 r.1, priority) refl in
     parts
 
 same_buckets-is : (xs ys : List TakenBucket) → same_buckets xs ys ≡ true → xs ≡ ys

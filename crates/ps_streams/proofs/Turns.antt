@@ -3,7 +3,7 @@ use Rattle.std.proofs.Common.{◌≡◌, ◌≢◌, ℕ, ◌<◌, ◌≤◌, tru
 use Rattle.std.specs.Prelude.{unwrap_or, bytes_eq, is_some, All}
 use Rattle.std.specs.List.{list_all}
 use Rattle.std.proofs.lemmas.Bool.{cases_Bool, eq-eqb, ltb-true, ltb-false}
-use Rattle.std.proofs.lemmas.List.Elements.{All-map}
+use Rattle.std.proofs.lemmas.List.Elements.{All-nil, All-cons}
 use Rattle.ps_data.specs.declared.ids.OpId.{OpId}
 use Rattle.ps_bucket_log.specs.declared.ops.Key.{Key}
 use Rattle.ps_bucket_log.specs.declared.ops.Op.{Op}
@@ -48,6 +48,20 @@ use Rattle.ps_streams.proofs.Ties.{Goes, with_reader, honest_later, honest_where
 
 is_in-none : (buckets : List TakenBucket) (name : List ℕ) → bucket_in name buckets ≡ None → is_in buckets name ≡ false
 is_in-none buckets name is = ap is_some is
+
+-- priorities are from 0 to 3, of what was taken and of what is told of it
+pub urgent_of : (buckets : List TakenBucket) → AllByRecursion IsLow buckets → AllByRecursion (λ (b : TakenBucket). b.priority ≤ 3) buckets
+urgent_of [] low = tt
+urgent_of (bucket ∷ buckets) low = (low.0.urgent, urgent_of buckets low.1)
+
+pub urgent_updated : (old buckets : List TakenBucket) → AllByRecursion (λ (b : TakenBucket). b.priority ≤ 3) buckets → AllByRecursion (λ (b : TakenBucket). b.priority ≤ 3) (updated old buckets)
+urgent_updated old [] low = tt
+urgent_updated old (bucket ∷ buckets) low = by (not (is_as (bucket_in bucket.name old) bucket)) (urgent_updated old buckets low.1)
+  where
+    by : (b : Bool) → AllByRecursion (λ (b : TakenBucket). b.priority ≤ 3) (updated old buckets)
+        → AllByRecursion (λ (b : TakenBucket). b.priority ≤ 3) (if b then bucket ∷ updated old buckets else updated old buckets)
+    by true rest = (low.0, rest)
+    by false rest = rest
 
 pub priorities_fit : (buckets : List TakenBucket) → AllByRecursion (λ (b : TakenBucket). b.priority ≤ 3) buckets → All (λ (entry : Entry). entry.priority ≤ 3) (map entry_of buckets)
 priorities_fit [] low = All-nil (λ (entry : Entry). entry.priority ≤ 3)
@@ -136,7 +150,7 @@ module _ (course : Course) (lawful : IsLawful course) where
       → TiedAtStart course place session buckets stream
       → Goes course n n (took_in Start session (course.take n)).session (took_in Start session (course.take n)).line buckets stream
   goes_first at place n session buckets stream late known tied local = rw tied.asked (record {
-    writable = (rw (lawful.takes.op n) (lawful.climb.greatest_op n), lawful.takes.number n, priorities_fit (course.take n).buckets);
+    writable = (rw (lawful.takes.op n) (lawful.climb.greatest_op n), lawful.takes.number n, priorities_fit (course.take n).buckets (urgent_of (course.take n).buckets (lawful.climb.buckets_low n)));
     good = tt;
     tied = record {
       late = omega arith;
@@ -179,7 +193,7 @@ module _ (course : Course) (lawful : IsLawful course) where
   goes_diff at since n session buckets stream late known tied local =
       let removed_told = removed_are_told tied.table.told session.last.buckets (course.take n).buckets tied.shares.tells in
       rw tied.open_is (record {
-        writable = (rw (lawful.takes.op n) (lawful.climb.greatest_op n), lawful.takes.number n, priorities_fit (updated session.last.buckets (course.take n).buckets));
+        writable = (rw (lawful.takes.op n) (lawful.climb.greatest_op n), lawful.takes.number n, priorities_fit (updated session.last.buckets (course.take n).buckets) (urgent_updated session.last.buckets (course.take n).buckets (urgent_of (course.take n).buckets (lawful.climb.buckets_low n))));
         good = rw removed_told tt;
         tied = rw removed_told (record {
           late = omega arith;

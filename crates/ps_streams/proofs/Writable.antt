@@ -21,11 +21,11 @@ use Rattle.ps_streams.specs.Runs.{batch_at, download, turn_in}
 use Rattle.ps_streams.specs.Calls.{LinesAreWritable}
 use Rattle.ps_streams.proofs.ToldTables.{first_behind-at}
 use Rattle.ps_streams.proofs.HonestReaders.{all_within, place_after-within, newest-place}
-use Rattle.ps_streams.proofs.Turns.{priorities_fit}
+use Rattle.ps_streams.proofs.Turns.{priorities_fit, urgent_of, urgent_updated}
 
 module _ (course : Course) (lawful : IsLawful course) (at n : ℕ) (late : at ≤ n) (session : SessionState) where
   diff_writable : IfSome (with_diff session (course.take n)).line IsWritable
-  diff_writable = (rw (lawful.takes.op n) (lawful.climb.greatest_op n), lawful.takes.number n, priorities_fit (updated session.last.buckets (course.take n).buckets))
+  diff_writable = (rw (lawful.takes.op n) (lawful.climb.greatest_op n), lawful.takes.number n, priorities_fit (updated session.last.buckets (course.take n).buckets) (urgent_updated session.last.buckets (course.take n).buckets (urgent_of (course.take n).buckets (lawful.climb.buckets_low n))))
 
   data_writable : (name : List ℕ) (batch : Batch) → batch ≡ course.batch n name (session.places name) session.last.last_op.0
       → session.last.last_op.0 ≤ greatest → batch.ops ≢ []
@@ -72,7 +72,7 @@ module _ (course : Course) (lawful : IsLawful course) (at n : ℕ) (late : at �
       (read_writable bucket last_is there.0 there.1)
 
   turn_writable : (phase : Phase) → (phase ≢ Start → session.last ≡ course.take at) → IfSome (turn_in phase course n session).line IsWritable
-  turn_writable Start taken_at = (rw (lawful.takes.op n) (lawful.climb.greatest_op n), lawful.takes.number n, priorities_fit (course.take n).buckets)
+  turn_writable Start taken_at = (rw (lawful.takes.op n) (lawful.climb.greatest_op n), lawful.takes.number n, priorities_fit (course.take n).buckets (urgent_of (course.take n).buckets (lawful.climb.buckets_low n)))
   turn_writable Download taken_at = download_writable (taken_at (λ (is : Download ≡ Start). cc)) (behind session) refl
   turn_writable Void taken_at = diff_writable
   turn_writable Done taken_at = elim (cases_Bool (is_unchanged session.last (course.take n))) [ inl same ↦ rw same tt | inr differs ↦ rw differs diff_writable ]
