@@ -1,7 +1,7 @@
 -- Each turn of a session keeps what it and its client have in common.
-use Rattle.std.proofs.Common.{◌≡◌, ◌≢◌, ℕ, ◌<◌, ◌≤◌, true, false, not, cond, leb, ltb, eqb, ◌⊎◌, inl, inr, Option, Some, None, IfSome, List, [], ◌∷◌, map, fold, refl, sym, ap, subst, ◌∙◌, arith}
-use Rattle.std.specs.Prelude.{unwrap_or, bytes_eq, is_some, All}
-use Rattle.std.specs.List.{list_all}
+use Rattle.std.proofs.Common.{◌≡◌, ◌≢◌, ℕ, ◌<◌, ◌≤◌, Bool, true, false, not, cond, leb, ltb, eqb, ◌⊎◌, inl, inr, Option, Some, None, IfSome, List, [], ◌∷◌, map, fold, refl, sym, ap, subst, ◌∙◌, arith}
+use Rattle.std.specs.Prelude.{unwrap_or, bytes_eq, is_some, if◌then◌else◌, All}
+use Rattle.std.specs.List.{list_all, AllByRecursion}
 use Rattle.std.proofs.lemmas.Bool.{cases_Bool, eq-eqb, ltb-true, ltb-false}
 use Rattle.std.proofs.lemmas.List.Elements.{All-nil, All-cons}
 use Rattle.ps_data.specs.declared.ids.OpId.{OpId}
@@ -32,12 +32,12 @@ use Rattle.ps_client.specs.Taking.{Rows, AreHeld}
 use Rattle.ps_bucket_log.specs.declared.takes.Taken.{Taken}
 use Rattle.ps_bucket_log.specs.declared.takes.TakenBucket.{TakenBucket}
 use Rattle.ps_store.specs.Courses.{Course, bucket_in, is_in}
-use Rattle.ps_store.specs.CourseLaws.{IsLawful, IsHonestAt, due_bucket, HoldsTaken}
+use Rattle.ps_store.specs.CourseLaws.{IsLawful, IsHonestAt, due_bucket, HoldsTaken, IsLow}
 use Rattle.ps_store.specs.Latest.{IsLatestData, ShowsLatest}
 use Rattle.ps_store.specs.Standing.{Holding}
 use Rattle.ps_session.specs.declared.phases.Phase.{Phase}
 use Rattle.ps_session.specs.declared.phases.Phase.TheVariants.{Start, Download, Void, Done}
-use Rattle.ps_session.specs.Takes.{entry_of, removed, updated, is_unchanged}
+use Rattle.ps_session.specs.Takes.{entry_of, removed, updated, is_as, bucket_in as bucket_named, is_unchanged}
 use Rattle.ps_session.specs.Sessions.{SessionState, places_in, with_diff, took_in, phase_after, with_place, read_in, read_of, finished, first_behind, behind}
 use Rattle.ps_streams.specs.Runs.{batch_at, download, turn_in, at_after, IsToldAt, IsToldIn}
 use Rattle.ps_streams.specs.Headline.{Buckets, AreHonest, AsksOn, AreListed, IsCovered, reader_of, client_of}
@@ -56,7 +56,7 @@ urgent_of (bucket ∷ buckets) low = (low.0.urgent, urgent_of buckets low.1)
 
 pub urgent_updated : (old buckets : List TakenBucket) → AllByRecursion (λ (b : TakenBucket). b.priority ≤ 3) buckets → AllByRecursion (λ (b : TakenBucket). b.priority ≤ 3) (updated old buckets)
 urgent_updated old [] low = tt
-urgent_updated old (bucket ∷ buckets) low = by (not (is_as (bucket_in bucket.name old) bucket)) (urgent_updated old buckets low.1)
+urgent_updated old (bucket ∷ buckets) low = by (not (is_as (bucket_named bucket.name old) bucket)) (urgent_updated old buckets low.1)
   where
     by : (b : Bool) → AllByRecursion (λ (b : TakenBucket). b.priority ≤ 3) (updated old buckets)
         → AllByRecursion (λ (b : TakenBucket). b.priority ≤ 3) (if b then bucket ∷ updated old buckets else updated old buckets)
