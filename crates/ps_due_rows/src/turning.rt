@@ -1,6 +1,6 @@
 //! The turns of a session, whose lines go to its client.
 
-ghost use Rattle.std.specs.Prelude.{◌≡◌, ◌<◌, List, OnOk, length};
+ghost use Rattle.std.specs.Prelude.{◌≡◌, ◌<◌, List, OnOk, length, ◌⊎◌, ◌≢◌, None};
 ghost use Rattle.ps_rows.specs.declared.shown.Shown.{Shown as ShownSeen};
 ghost use Rattle.ps_client.specs.States.{state};
 ghost use Rattle.ps_store.specs.declared.events.Event.{Event as EventSeen};
@@ -10,7 +10,7 @@ ghost use Rattle.ps_store.specs.Stores.{StoreStandsFor};
 ghost use Rattle.ps_session.specs.declared.actions.Action.TheVariants as actions;
 ghost use Rattle.ps_session.specs.declared.phases.Phase.TheVariants.{Start, Download};
 ghost use Rattle.ps_session.specs.Kept.{state_of};
-ghost use Rattle.ps_session.specs.Sessions.{IsReading, next_action};
+ghost use Rattle.ps_session.specs.Sessions.{IsReading, next_action, part_of};
 ghost use Rattle.ps_streams.specs.Downloads.{left};
 ghost use Rattle.ps_streams.specs.Headline.{AreListed};
 ghost use Rattle.ps_due_rows.specs.Turning.{IsLedIn, IsIdle, Begins, TurnsLed};
@@ -68,14 +68,14 @@ pub fn take(
     turn(alloc, store, session, client)
 }
 
-// Reads the bucket that is behind on.
+// Reads the bucket that is behind on, or tells the part that is due.
 fn read_on(
     alloc: Global,
     store: &Store,
     session: &mut Session,
     client: &mut Client<VolatileKeeper>,
 ) -> Result<(), Memory>
-    requires action { IsReading (next_action (state_of session.old)) }
+    requires action { IsReading (next_action (state_of session.old)) ⊎ ((state_of session.old).phase ≡ Download) × (part_of (state_of session.old) ≢ None) }
     requires led { (fixed : FixedSeen) × (history : List EventSeen) × StoreStandsFor fixed store.now history
         × IsLedIn fixed history session.old.asker (state_of session.old) (state client.old) }
     ensures led { OnOk result ((fixed : FixedSeen) (history : List EventSeen) → StoreStandsFor fixed store.now history
@@ -109,13 +109,19 @@ pub fn download(
         → IsLedIn fixed history session.old.asker (state_of session.old) (state client.old)
         → IsLedIn fixed history session.old.asker (state_of session.new) (state client.new)) }
     ensures sent { OnOk result (next_action (state_of session.new) ≡ actions.Complete) }
+    ensures whole { OnOk result (part_of (state_of session.new) ≡ None) }
     ensures idle { OnOk result (IsIdle (state client.old) → IsIdle (state client.new)) }
     ensures asker { session.new.asker ≡ session.old.asker }
 {
     'reads: loop {
         match session.next_action() {
             Action::Read { .. } => read_on(alloc, store, session, client)?,
-            Action::Complete => return Ok(()),
+            Action::Complete => {
+                if session.part().is_none() {
+                    return Ok(());
+                }
+                read_on(alloc, store, session, client)?;
+            }
             Action::Take | Action::Wait => unreachable!(),
         }
     }
@@ -129,6 +135,7 @@ pub fn complete(
     client: &mut Client<VolatileKeeper>,
 ) -> Result<(), Memory>
     requires action { next_action (state_of session.old) ≡ actions.Complete }
+    requires whole { part_of (state_of session.old) ≡ None }
     requires idle { IsIdle (state client.old) }
     requires led { (fixed : FixedSeen) × (history : List EventSeen) × StoreStandsFor fixed store.now history
         × IsLedIn fixed history session.old.asker (state_of session.old) (state client.old) }

@@ -250,6 +250,9 @@ pub fn step<R: Wait, K: Sink, C: Clock>(
     match action {
         Action::Take | Action::Wait => take_again(desk, terms, reader, stream, to),
         Action::Read { .. } => send_on(desk, reader, stream, to, false),
-        Action::Complete => send_on(desk, reader, stream, to, true),
+        Action::Complete => {
+            let whole = stream.session.part().is_none();
+            send_on(desk, reader, stream, to, whole)
+        }
     }
 }

@@ -152,8 +152,9 @@ impl Session {
         }
     }
 
-    // The priority of the part that is due: that of the buckets before the one that is behind, where it was not told.
-    fn part(&self) -> Option<u8>
+    /// While a checkpoint is sent: the priority of the part that `finish` tells next, where all buckets of at most it are sent,
+    /// others are not, and it was not told; else None. Takes no memory.
+    pub fn part(&self) -> Option<u8>
         ensures { self.now.phase ≡ phases.Download → result ≡ part_of (state_of self.now) }
     {
         let place = self.order.get(self.cursor).copied()?;
