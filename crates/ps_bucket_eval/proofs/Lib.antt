@@ -2,6 +2,7 @@ mod Adding
 mod Allowing
 mod Choosing
 mod Fitting
+mod Fronts
 mod Placements
 pub mod Ranks
 mod Reading
