@@ -1,6 +1,7 @@
 mod Adding
 mod Allowing
 mod Choosing
+pub mod Crossing
 mod Fitting
 mod Fronts
 mod Placements

@@ -108,7 +108,8 @@ fn evaluate_all<R: Threads + Sync>(
         .with_min_len(PIECE)
         .map(
             |step: AheadStep| -> Result<PreparedStep, PlaceFault>
-                ensures { IsEvaluated rules.now.definitions top step result }
+                requires { top ≤ 1000000 }
+                ensures { IsEvaluated rules.entry.now.definitions top step result }
             { evaluate(alloc, rules, step, top) },
         )
         .collect::<Vec<_>>(rt, alloc)?;
