@@ -22,6 +22,7 @@ use Rattle.ps_store.specs.Generations.{mark_of}
 use Rattle.ps_store.specs.Originals.{Timed, timed, columns_of}
 use Rattle.ps_definitions.specs.RuleSets.{RuleSet}
 use Rattle.ps_store.specs.StoreGenerations.{by_of, IsCopyOf, IsMarked}
+use Rattle.ps_store.specs.Batches.{IsPlanned}
 use Rattle.ps_store.specs.Plans.{IsStart, IsRun}
 use Rattle.ps_store.specs.Reach.{Reached, reached}
 use Rattle.ps_store.specs.Runs.{Run, run_from}
@@ -41,11 +42,6 @@ use Rattle.ps_store.proofs.StoreStands.{stands_same, ts_are, newer, counted, row
 
 pub usual : (fixed : Fixed) (store : Store) (history : List Event) → StoreStandsFor fixed store history → AreWithin store.fixed.limits
 usual fixed store history h = subst (λ (f : Fixed). AreWithin f.limits) (sym h.fixed_is) h.limits
-
--- what a plan says
-abbrev pub IsPlanned : Store → ℕ → Planned → Fixed → Type 0
-IsPlanned old limit planned by = (base : Ledger) → IsStart by.rules old.rows old.last.0 base
-    → IsRun by.rules old.rows old.tail.changes.items base planned (take limit old.tail.changes.items) (run_from by.limits base 0 (take limit old.tail.changes.items))
 
 -- places for rows are given up
 pub tidied : (old mid : Store) (rows : Rows) → IsSame old mid → ((key : Key) → row_at rows key ≡ row_at mid.rows key) → IsSame old (record mid { rows = rows })

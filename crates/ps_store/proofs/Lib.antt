@@ -52,6 +52,7 @@ pub mod Placing
 pub mod Plainly
 pub mod PlanMarked
 pub mod Planning
+pub mod Preparing
 pub mod Queries
 pub mod QueueTaken
 pub mod Queued
@@ -65,6 +66,7 @@ pub mod Replays
 pub mod Sent
 pub mod Sources
 pub mod Standings
+pub mod StayingAhead
 pub mod Stepping
 pub mod StoreStands
 pub mod Sums

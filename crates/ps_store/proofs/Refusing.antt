@@ -33,7 +33,7 @@ module _ (limits : Limits) (l : Ledger) (store : Store) (held : store.tail.chang
   none : (fault : WriteFault) → unwritten l ≡ [] → fault ≡ writing.NothingToWrite → IsRefused limits l fault
   none fault empty is = subst (IsRefused limits l) (sym is) empty
 
-  wide : (fault : WriteFault) (t : Timed) (ts : List Timed) → unwritten l ≡ t ∷ ts → limits.entries < length (entries_after l t) → IsTooWide store (limits.entries + 1) fault → IsRefused limits l fault
+  pub wide : (fault : WriteFault) (t : Timed) (ts : List Timed) → unwritten l ≡ t ∷ ts → limits.entries < length (entries_after l t) → IsTooWide store (limits.entries + 1) fault → IsRefused limits l fault
   wide fault t ts next more named = elim named as (λ n. IsRefused limits l fault) [
     | inl is ↦ subst (IsRefused limits l) (sym is) (λ empty. first_there t ts (sym next ∙ empty))
     | inr found ↦

@@ -1,3 +1,5 @@
+pub mod Ahead
+pub mod Batches
 pub mod Limits
 pub mod Numbers
 pub mod Originals

@@ -5,12 +5,16 @@ use Rattle.ps_data.specs.declared.columns.Column.{Column}
 use Rattle.std.specs.BTreeMap.{get}
 use Rattle.ps_rows.specs.Source.{Key, key_cmp}
 use Rattle.ps_definitions.specs.RuleSets.{RuleSet}
+use Rattle.ps_definitions.specs.declared.definitions.Definition.{Definition}
+use Rattle.ps_bucket_eval.specs.Ahead.{IsStep}
+use Rattle.ps_bucket_eval.specs.declared.ahead.PreparedStep.{PreparedStep}
 use Rattle.ps_bucket_eval.specs.declared.changes.ChangeEntries.{ChangeEntries}
 use Rattle.ps_store.specs.declared.fixed.Limits.{Limits}
 use Rattle.ps_store.specs.declared.rows.Rows.{Rows}
 use Rattle.ps_store.specs.declared.plans.Plan.{Plan}
 use Rattle.ps_store.specs.declared.plans.Planned.{Planned}
 use Rattle.ps_store.specs.declared.plans.Refusal.{Refusal}
+use Rattle.ps_store.specs.Ahead.{Rows as SeenRows, row_after, step_of}
 use Rattle.ps_store.specs.Originals.{Timed, key_of, columns_of, standing_entries}
 use Rattle.ps_store.specs.Ledgers.{Ledger, entries_after, write_next}
 use Rattle.ps_store.specs.Rows.{row_at}
@@ -60,6 +64,12 @@ pub record IsMade (limits : Limits) (l : Ledger) (t : Timed) (entries : ChangeEn
   pub before : entries.before ≡ standing_entries l.force.rules.definitions l.force.source (key_of t)
   pub after : entries.after ≡ entries_after l t
   pub narrow : length entries.after ≤ limits.entries
+
+-- prepared steps are made of the first of some changes, over rows
+abbrev pub AreMade : List Definition → ℕ → SeenRows → List PreparedStep → List Timed → Type 0
+AreMade definitions top rows [] ts = Unit {0}
+AreMade definitions top rows (p ∷ ps) [] = ⊥
+AreMade definitions top rows (p ∷ ps) (t ∷ ts) = IsStep definitions top (step_of rows t) p × AreMade definitions top (row_after rows t) ps ts
 
 -- the plan is that of a run over the first of some changes
 pub record IsRun (rules : RuleSet) (rows : Rows) (changes : List Timed) (base : Ledger) (planned : Planned) (ts : List Timed) (run : Run) : Type 0 where

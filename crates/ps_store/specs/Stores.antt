@@ -203,6 +203,7 @@ IsRefused limits l (writing.TooWide table id count) =
 IsRefused limits l (writing.OpsFull last) =
     (t : Timed) × (ts : List Timed) × (unwritten l ≡ t ∷ ts) × (length (entries_after l t) ≤ limits.entries)
     × (limits.ops < l.last + length (next_ops l t)) × (last.0 ≡ l.last)
+IsRefused limits l (writing.Moved from written generation) = ⊥
 IsRefused limits l writing.Memory = unwritten l ≢ []
 
 -- the longest run of next changes that can be written, at most so many

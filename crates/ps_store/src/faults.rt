@@ -51,6 +51,15 @@ pub enum WriteFault {
         /// The last id that was given, 0 where none.
         last: OpId,
     },
+    /// Changes were written, or other rules came into force, since the batch was prepared. Only prepared batches are refused so.
+    Moved {
+        /// How many changes were written when the batch was prepared.
+        from: u128,
+        /// How many are written.
+        written: u128,
+        /// The number of the generation in force.
+        generation: u32,
+    },
     /// Out of memory.
     Memory,
 }

@@ -87,6 +87,14 @@ impl Shared {
         &self.rules
     }
 
+    /// The rules for somebody else, who may keep them as long as he likes. Takes no memory; it fails only where there are too many
+    /// who share them.
+    pub(crate) fn share(&self) -> Result<Arc<Rules>, Memory>
+        ensures { IfOk result (λ rules. rules.value ≡ self.now.rules) }
+    {
+        Ok(Arc::try_clone(&self.rules)?)
+    }
+
     /// The limits.
     pub(crate) fn limits(&self) -> &Limits
         ensures { result.now ≡ self.now.limits }

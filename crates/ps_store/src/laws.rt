@@ -1,5 +1,6 @@
 //! The laws of original operations and of histories. Each is the contract of a function that does nothing.
 
+ghost use Rattle.ps_store.specs.Ahead.{PreparedStays};
 ghost use Rattle.ps_store.specs.Laws.{ReadersHoldStanding, LatestRowsAreDue};
 ghost use Rattle.ps_store.specs.StepLaws.{ReadersHoldStepped, LatestRowsAreGranted, StepsLeadToSources};
 ghost use Rattle.ps_store.specs.Histories.{LedgersTellHistories, LedgersTellOneGeneration, GenerationsTell};
@@ -218,4 +219,10 @@ pub fn uploads_are_covered()
 /// while something is.
 pub fn generations_take_over()
     ensures { GenerationsTakeOver }
+{}
+
+/// A law: a batch that was prepared at a place of a history is prepared for each later place: where as many changes are written
+/// there and the same generation is in force, its changes come next, over the same rows and under the same rules.
+pub fn prepared_batches_stay()
+    ensures { PreparedStays }
 {}

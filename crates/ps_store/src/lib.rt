@@ -1,6 +1,7 @@
 //! The store of a service: how the changes of a source are written into buckets, and what the readers of buckets then hold.
 #![tactic(auto)]
 
+mod ahead;
 mod building;
 mod deploying;
 mod deploys;
@@ -36,11 +37,12 @@ pub use laws::{
     committed_rows_are_due, courses_are_lawful, generations_take_over, generations_tell,
     indexes_give_buckets, latest_rows_are_due, latest_rows_are_granted, ledgers_tell_events,
     ledgers_tell_histories, ledgers_tell_ops, ledgers_tell_reach, logs_stand_for_originals,
-    places_are_fronts, readers_come_through, readers_hold_what_is_committed,
+    places_are_fronts, prepared_batches_stay, readers_come_through, readers_hold_what_is_committed,
     readers_hold_what_stands, readers_hold_what_steps_leave, runs_are_the_longest,
     steps_lead_to_sources, totals_tell_histories, uploads_are_covered,
 };
 pub use numbers::have_numbers;
+pub use ps_bucket_eval::{Ahead, AheadStep, Prepared, PreparedStep, prepare};
 pub use ps_bucket_log::{Batch, Taken, TakenBucket};
 pub use readings::TakeFault;
 pub use stores::{Checkpoint, Store, Wrote};

@@ -9,7 +9,9 @@ ghost use Rattle.ps_store.specs.Limits.{AreWithin};
 ghost use Rattle.ps_store.specs.Noting.{row_noted};
 ghost use Rattle.ps_store.specs.Originals.{Timed, columns_of, key_of, put, numbered};
 ghost use Rattle.ps_store.specs.Places.{places_left, removed_all};
-ghost use Rattle.ps_store.specs.Plans.{PlanStands, IsStart, IsRun, IsMade, with_change, row_left, row_seen};
+ghost use Rattle.ps_store.specs.Plans.{PlanStands, IsStart, IsRun, IsMade, AreMade, with_change, row_left, row_or_left, row_seen};
+ghost use Rattle.std.specs.BTreeMap.{get};
+ghost use Rattle.ps_store.specs.Ahead.{rows_in};
 ghost use Rattle.ps_store.specs.Rows.{row_at};
 ghost use Rattle.ps_store.specs.Runs.{refusal_of, run_from};
 ghost use Rattle.ps_store.specs.declared.rows.Rows.{Rows as RowsSeen};
@@ -19,7 +21,7 @@ use crate::fixed::{Limits, Shared};
 use crate::places::{Place, copy_place, into_places, is_among, is_in, places_of};
 use crate::rows::{RowKey, Rows};
 use crate::waiting::Waiting;
-use ps_bucket_eval::{ChangeEntries, PlaceFault, Placed, entries_of_change};
+use ps_bucket_eval::{ChangeEntries, PlaceFault, Placed, PreparedStep, entries_of_change};
 use ps_bucket_log::{Key, Op};
 use ps_checksum::{put_sum, remove_sum};
 use ps_data::{Items, Memory, OpId};
@@ -142,6 +144,28 @@ fn put_all(entered: &mut Vec<Entered>, last: OpId, entries: Items<Placed>) -> Re
     Ok(OpId(id))
 }
 
+/// A row as it stands after some changes: as the last of them that is of it leaves it, or as it lives.
+pub(crate) fn row_in<'a>(
+    seen: &Seen,
+    rows: &'a Rows,
+    changes: &'a VecDeque<Waiting>,
+    key: &RowKey,
+) -> Option<&'a Row>
+    ensures { option_copied result
+        ≡ row_or_left changes.now.items (columns_of (row_at rows.now key.now)) (get key_cmp seen.now key.now) }
+{
+    match seen.get(key) {
+        Some(place) => match changes.get(*place) {
+            Some(waiting) => waiting.change().row.as_ref(),
+            None => None,
+        },
+        None => match rows.get(key) {
+            Some(live) => Some(live.row()),
+            None => None,
+        },
+    }
+}
+
 /// Gives up the places of the rows that are gone. Takes no memory.
 pub(crate) fn tidy_all(rows: &mut Rows, seen: &Seen)
     ensures { (key : KeySeen) → row_at rows.new key ≡ row_at rows.old key }
@@ -205,16 +229,7 @@ impl Plan {
     ) -> Option<&'a Row>
         ensures { option_copied result ≡ row_seen self.now rows.now changes.now.items key.now }
     {
-        match self.seen.get(key) {
-            Some(place) => match changes.get(*place) {
-                Some(waiting) => waiting.change().row.as_ref(),
-                None => None,
-            },
-            None => match rows.get(key) {
-                Some(live) => Some(live.row()),
-                None => None,
-            },
-        }
+        row_in(&self.seen, rows, changes, key)
     }
 
     // Notes that the next change is the last one so far of its row.
@@ -383,6 +398,50 @@ pub(crate) fn plan_run(
     Ok(Planned {
         plan,
         count,
+        refusal: None,
+    })
+}
+
+/// Plans a write of prepared changes, which are the first ones: as many of them as can be written.
+pub(crate) fn plan_prepared(
+    alloc: Global,
+    fixed: &Shared,
+    last: OpId,
+    changes: &VecDeque<Waiting>,
+    steps: Vec<PreparedStep>,
+) -> Result<Planned, Memory>
+    requires within { AreWithin fixed.now.limits }
+    requires there { length steps.items ≤ length changes.now.items }
+    ensures { IfOk result (λ planned. (rows : RowsSeen) (base : Ledger) → IsStart fixed.now.rules rows last.0 base
+        → AreMade fixed.now.rules.definitions fixed.now.limits.entries (rows_in base) steps.items changes.now.items
+        → IsRun fixed.now.rules rows changes.now.items base planned (take (length steps.items) changes.now.items)
+        (run_from fixed.now.limits base 0 (take (length steps.items) changes.now.items))) }
+{
+    let mut plan = Plan::new(alloc, last);
+    let mut place = 0;
+    'steps: for step in steps {
+        let waiting = &changes[place];
+        let key = waiting.key(alloc)?;
+        let PreparedStep {
+            change: _,
+            before,
+            after,
+        } = step;
+        let entries = ChangeEntries { before, after };
+        match plan.keep(alloc, fixed, key, waiting, entries)? {
+            None => place += 1,
+            Some(refusal) => {
+                return Ok(Planned {
+                    plan,
+                    count: place,
+                    refusal: Some(refusal),
+                });
+            }
+        }
+    }
+    Ok(Planned {
+        plan,
+        count: place,
         refusal: None,
     })
 }

@@ -1,12 +1,14 @@
 //! The store.
 
-ghost use Rattle.std.specs.Prelude.{◌≡◌, ◌+◌, ◌-◌, ◌≤◌, ◌<◌, ◌∷◌, ◌++◌, [], take, length, List, ℕ, Some, OnOk, IfOk, IsSome, All};
+ghost use Rattle.std.specs.Prelude.{◌≡◌, ◌+◌, ◌-◌, ◌≤◌, ◌<◌, ◌∷◌, ◌++◌, [], take, length, List, ℕ, Some, OnOk, IfOk, IsSome, All, ◌≢◌, ◌⊎◌};
 ghost use Rattle.ps_bucket_log.specs.declared.ops.Op.{Op as OpSeen};
 ghost use Rattle.ps_rows.specs.declared.changes.Change.{Change as ChangeSeen};
 ghost use Rattle.ps_rows.specs.Source.{Key};
 ghost use Rattle.ps_store.specs.declared.events.Event.{Event as EventSeen};
 ghost use Rattle.ps_store.specs.declared.events.Event.TheVariants.{Close};
 ghost use Rattle.ps_store.specs.declared.fixed.Fixed.{Fixed as FixedSeen};
+ghost use Rattle.ps_store.specs.Ahead.{IsAhead, IsPreparedFor, WritesPrepared};
+ghost use Rattle.ps_store.specs.Batches.{IsPlanned};
 ghost use Rattle.ps_store.specs.Costs.{TakesFew, ReadsFew};
 ghost use Rattle.ps_store.specs.Ledgers.{ledger_of, head_of};
 ghost use Rattle.ps_store.specs.Limits.{greatest, AreWithin};
@@ -19,6 +21,7 @@ ghost use Rattle.ps_store.specs.Totals.{totals_of, bucket_names_of, HaveRoom};
 ghost use Rattle.ps_store.specs.Stores.{StoreStandsFor, Writes, Feeds, Commits, Compacts, IsSame, IsFilled, IsTooWide, IsNamed, Uploads, MakesNumber};
 ghost use Rattle.ps_store.specs.StoreGenerations.{by_of, ending_from, log_of, FitsQueue, IsCopyOf, IsMarked};
 
+use crate::ahead::steps_of;
 use crate::faults::{CompactFault, FeedFault, NothingToCommit, WriteFault};
 use crate::fixed::{Limits, Shared};
 use crate::generations::{Ending, Generations};
@@ -27,13 +30,14 @@ use crate::laws::logs_stand_for_originals;
 use crate::logs::Logs;
 use crate::marking::{has_mark, mark_buckets, with_mark};
 use crate::numbers::have_numbers;
-use crate::plans::{Plan, Planned, Refusal, plan_run, tidy_all};
+use crate::plans::{Plan, Planned, Refusal, plan_prepared, plan_run, tidy_all};
 use crate::readings::TakeFault;
 use crate::rooms::rooms_for;
 use crate::rows::{Rows, make_places};
 use crate::tails::{Tail, advance};
 use crate::totals::{Totals, sum_of};
 use crate::waiting::Waiting;
+use ps_bucket_eval::{Ahead, Prepared};
 use ps_bucket_log::{
     Batch, Steps, Taken, standing_logs_have_the_sums_of_their_originals,
     standing_logs_stay_standing,
@@ -318,6 +322,81 @@ impl Store {
             &self.tail.changes,
             limit as usize,
         )?;
+        self.write_planned(alloc, planned, limit)
+    }
+
+    /// The next unwritten changes, at most `limit`, from 1 to 1,000,000, each with its row as it stands before it, and what else
+    /// their entries depend on: so they can be evaluated by `prepare` while others change the store. Nothing changes.
+    pub fn next_changes(&self, alloc: Global, limit: u32) -> Result<Ahead, Memory>
+        requires some { 1 ≤ limit }
+        requires limit { limit ≤ 1000000 }
+        ensures { IfOk result (λ ahead. (fixed : FixedSeen) (history : List EventSeen)
+            → StoreStandsFor fixed self.now history
+            → IsAhead fixed.limits (ledger_of fixed.rules history) limit ahead) }
+    {
+        let steps = steps_of(alloc, &self.rows, &self.tail.changes, limit as usize)?;
+        Ok(Ahead {
+            from: self.totals.changes,
+            generation: self.generations.number,
+            top: self.fixed.limits().entries,
+            rules: self.by().share()?,
+            steps,
+        })
+    }
+
+    /// Writes prepared changes, at least one, or tells that the next one leaves its row too many entries. The batch was prepared
+    /// from `next_changes` of this store, at this place of its history or an earlier one (`prepared_batches_stay`). `Moved`
+    /// exactly where another number of changes is written now than then, or another generation is in force; else as
+    /// `write_batch` with as many changes as are prepared. After a refusal the store stands for the same history.
+    pub fn write_prepared(&mut self, alloc: Global, prepared: Prepared) -> Result<Wrote, WriteFault>
+        requires some { (prepared.steps.items ≢ []) ⊎ IsSome prepared.wide }
+        requires limit { length prepared.steps.items ≤ 1000000 }
+        requires stands { (fixed : FixedSeen) × (history : List EventSeen)
+            × StoreStandsFor fixed self.old history
+            × IsPreparedFor fixed.limits (ledger_of fixed.rules history) prepared }
+        ensures { (fixed : FixedSeen) (history : List EventSeen)
+            → StoreStandsFor fixed self.old history
+            → WritesPrepared fixed history prepared self.new result }
+    {
+        let Prepared {
+            from,
+            generation,
+            steps,
+            wide,
+        } = prepared;
+        if self.totals.changes != from || self.generations.number != generation {
+            return Err(WriteFault::Moved {
+                from,
+                written: self.totals.changes,
+                generation: self.generations.number,
+            });
+        }
+        let count = steps.len();
+        if count == 0 {
+            return match wide {
+                Some(count) => Err(self.too_wide(alloc, count)),
+                None => unreachable!(),
+            };
+        }
+        let planned = plan_prepared(alloc, self.by(), self.last, &self.tail.changes, steps)?;
+        self.write_planned(alloc, planned, count as u32)
+    }
+
+    // Writes what is planned of the first changes, at most so many.
+    fn write_planned(
+        &mut self,
+        alloc: Global,
+        planned: Planned,
+        limit: u32,
+    ) -> Result<Wrote, WriteFault>
+        requires some { 1 ≤ limit }
+        requires limit { limit ≤ 1000000 }
+        requires there { 1 ≤ length self.old.tail.changes.items }
+        requires planned { IsPlanned self.old limit planned (by_of self.old) }
+        requires stands { (fixed : FixedSeen) × (history : List EventSeen) × StoreStandsFor fixed self.old history }
+        ensures { (fixed : FixedSeen) (history : List EventSeen)
+            → StoreStandsFor fixed self.old history → Writes fixed history limit self.new result }
+    {
         let Planned {
             mut plan,
             count,

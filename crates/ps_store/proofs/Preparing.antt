@@ -1,0 +1,128 @@
+-- Prepared changes are planned as the next changes are.
+use Rattle.std.proofs.Common.{◌≡◌, ◌≢◌, ℕ, zero, suc, ◌+◌, ◌≤◌, ◌<◌, inl, inr, List, [], ◌∷◌, Option, Some, None, refl, sym, ap, ◌∙◌, subst, length, take, arith}
+use Rattle.std.specs.Prelude.{Result, Ok, Err, IsSome, ◌⊎◌}
+use Rattle.std.specs.FinMap.Entries.{find}
+use Rattle.ps_rows.specs.Source.{Key, key_cmp}
+use Rattle.ps_definitions.specs.declared.definitions.Definition.{Definition}
+use Rattle.ps_definitions.specs.RuleSets.{RuleSet}
+use Rattle.ps_bucket_eval.specs.Ahead.{AreSteps, IsStep, IsWide, entries_left}
+use Rattle.ps_bucket_eval.specs.declared.ahead.AheadStep.{AheadStep}
+use Rattle.ps_bucket_eval.specs.declared.ahead.Prepared.{Prepared}
+use Rattle.ps_bucket_eval.specs.declared.ahead.PreparedStep.{PreparedStep}
+use Rattle.ps_store.specs.declared.events.Event.{Event}
+use Rattle.ps_store.specs.declared.faults.WriteFault.{WriteFault}
+use Rattle.ps_store.specs.declared.faults.WriteFault.TheVariants as writing
+use Rattle.ps_store.specs.declared.fixed.Fixed.{Fixed}
+use Rattle.ps_store.specs.declared.fixed.Limits.{Limits}
+use Rattle.ps_store.specs.declared.plans.Planned.{Planned}
+use Rattle.ps_store.specs.declared.stores.Store.{Store}
+use Rattle.ps_store.specs.declared.stores.Wrote.{Wrote}
+use Rattle.ps_store.specs.Ahead.{Rows, rows_in, row_after, step_of, steps_from, steps_ahead, IsReady, IsHere, wanted, WritesPrepared}
+use Rattle.ps_store.specs.Batches.{IsPlanned}
+use Rattle.ps_store.specs.Ledgers.{Ledger, unwritten, entries_after, ledger_of}
+use Rattle.ps_store.specs.Originals.{Timed, columns_of}
+use Rattle.ps_store.specs.Plans.{IsStart, IsRun, AreMade}
+use Rattle.ps_store.specs.Runs.{run_from}
+use Rattle.ps_store.specs.StoreGenerations.{by_of}
+use Rattle.ps_store.specs.Stores.{StoreStandsFor, IsTooWide, IsRefused, Writes}
+use Rattle.ps_store.proofs.Refusing.{wide}
+
+-- what was prepared of the next changes is made of them
+steps_are_made : (definitions : List Definition) (top count : ℕ) (rows : Rows) (us : List Timed) (ps : List PreparedStep) (wide : Option ℕ)
+    → AreSteps definitions top (steps_from rows (take count us)) ps wide → AreMade definitions top rows ps us
+steps_are_made definitions top count rows us [] wide h = tt
+steps_are_made definitions top zero rows us (p ∷ ps) wide h = absurd h
+steps_are_made definitions top (suc count) rows [] (p ∷ ps) wide h = absurd h
+steps_are_made definitions top (suc count) rows (t ∷ us) (p ∷ ps) wide h = (h.0, steps_are_made definitions top count (row_after rows t) us ps wide h.1)
+
+pub made_count : (definitions : List Definition) (top : ℕ) (rows : Rows) (ps : List PreparedStep) (us : List Timed) → AreMade definitions top rows ps us → length ps ≤ length us
+made_count definitions top rows [] us h = omega arith
+made_count definitions top rows (p ∷ ps) [] h = absurd h
+made_count definitions top rows (p ∷ ps) (t ∷ us) h = omega (arith, made_count definitions top (row_after rows t) ps us h.1)
+
+-- where nothing is prepared, the next change leaves too many entries
+record IsFirstWide (definitions : List Definition) (top : ℕ) (rows : Rows) (us : List Timed) (wide : Option ℕ) : Type 0 where
+  first : Timed
+  rest : List Timed
+  count : ℕ
+  next : us ≡ first ∷ rest
+  counted : wide ≡ Some count
+  is_wide : IsWide definitions top (step_of rows first) count
+
+first_is_wide : (definitions : List Definition) (top count : ℕ) (rows : Rows) (us : List Timed) (wide : Option ℕ)
+    → AreSteps definitions top (steps_from rows (take count us)) [] wide → IsSome wide → IsFirstWide definitions top rows us wide
+first_is_wide definitions top zero rows us wide h some = absurd (rw h at some)
+first_is_wide definitions top (suc count) rows [] wide h some = absurd (rw h at some)
+first_is_wide definitions top (suc count) rows (t ∷ us) None h some = absurd some
+first_is_wide definitions top (suc count) rows (t ∷ us) (Some n) h some = record { first = t; rest = us; count = n; next = refl; counted = refl; is_wide = h }
+
+pub wanted_some : (ps : List PreparedStep) → 1 ≤ length ps → wanted ps ≡ length ps
+wanted_some [] some = absurd (omega (arith, some))
+wanted_some (p ∷ ps) some = refl
+
+some_steps : (ps : List PreparedStep) → length ps ≡ 0 → ps ≡ []
+some_steps [] none = refl
+some_steps (p ∷ ps) none = absurd (omega (arith, none))
+
+-- what a batch answers is what prepared changes answer, which stand where the store stands
+pub as_prepared : (fixed : Fixed) (history : List Event) (prepared : Prepared) (new : Store) (result : Result Wrote WriteFault) → IsHere (ledger_of fixed.rules history) prepared
+    → (unwritten (ledger_of fixed.rules history) ≡ [] → ⊥) → Writes fixed history (wanted prepared.steps.items) new result → WritesPrepared fixed history prepared new result
+as_prepared fixed history prepared new (Ok wrote) here some writes = (here, writes)
+as_prepared fixed history prepared new (Err writing.NothingToWrite) here some writes = absurd (some writes.0)
+as_prepared fixed history prepared new (Err (writing.TooWide table id count)) here some writes = (here, writes)
+as_prepared fixed history prepared new (Err (writing.OpsFull last)) here some writes = (here, writes)
+as_prepared fixed history prepared new (Err (writing.Moved from written generation)) here some writes = absurd writes.0
+as_prepared fixed history prepared new (Err writing.Memory) here some writes = (here, writes)
+
+module _ (fixed : Fixed) (old : Store) (history : List Event) (h : StoreStandsFor fixed old history) (prepared : Prepared) (ready : IsReady fixed.limits (ledger_of fixed.rules history) prepared) where
+  abbrev l : Ledger
+  l = ledger_of fixed.rules history
+
+  abbrev steps : List PreparedStep
+  steps = prepared.steps.items
+
+  made : AreMade l.force.rules.definitions fixed.limits.entries (rows_in l) steps (unwritten l)
+  made = steps_are_made l.force.rules.definitions fixed.limits.entries ready.looked_at (rows_in l) (unwritten l) steps prepared.wide ready.steps
+
+  pub count_there : length steps ≤ length old.tail.changes.items
+  count_there = omega (arith, made_count l.force.rules.definitions fixed.limits.entries (rows_in l) steps (unwritten l) made, ap length h.stands.changes)
+
+  -- over any ledger that begins with the rows of the store
+  made_over : (base : Ledger) → IsStart (by_of old).rules old.rows old.last.0 base → AreMade (by_of old).rules.definitions (by_of old).limits.entries (rows_in base) steps old.tail.changes.items
+  made_over base start =
+      let rows : rows_in l ≡ rows_in base = λ i key. (sym (ap columns_of (h.stands.rows key)) ∙ start.stand key) i in
+      let top : fixed.limits.entries ≡ (by_of old).limits.entries = ap (λ (f : Fixed). f.limits.entries) (sym h.fixed_is) ∙ ap (λ (limits : Limits). limits.entries) (sym h.stands.by_limits) in
+      subst (λ (us : List Timed). AreMade (by_of old).rules.definitions (by_of old).limits.entries (rows_in base) steps us) (sym h.stands.changes)
+      (subst (λ (r : RuleSet). AreMade r.definitions (by_of old).limits.entries (rows_in base) steps (unwritten l)) h.stands.rules
+      (subst (λ (n : ℕ). AreMade l.force.rules.definitions n (rows_in base) steps (unwritten l)) top
+      (subst (λ (rows : Rows). AreMade l.force.rules.definitions fixed.limits.entries rows steps (unwritten l)) rows made)))
+
+  pub planned_is : (planned : Planned)
+      → ((base : Ledger) → IsStart (by_of old).rules old.rows old.last.0 base → AreMade (by_of old).rules.definitions (by_of old).limits.entries (rows_in base) steps old.tail.changes.items
+        → IsRun (by_of old).rules old.rows old.tail.changes.items base planned (take (length steps) old.tail.changes.items) (run_from (by_of old).limits base 0 (take (length steps) old.tail.changes.items)))
+      → IsPlanned old (length steps) planned (by_of old)
+  planned_is planned said = λ base start. said base start (made_over base start)
+
+  pub not_all_written : 1 ≤ length steps → unwritten l ≡ [] → ⊥
+  not_all_written some none = absurd (omega (arith, some, made_count l.force.rules.definitions fixed.limits.entries (rows_in l) steps (unwritten l) made, ap length none))
+
+  module _ (none : length steps ≡ 0) (is_some : IsSome prepared.wide) where
+    first : IsFirstWide l.force.rules.definitions fixed.limits.entries (rows_in l) (unwritten l) prepared.wide
+    first = first_is_wide l.force.rules.definitions fixed.limits.entries ready.looked_at (rows_in l) (unwritten l) prepared.wide
+        (subst (λ (ps : List PreparedStep). AreSteps l.force.rules.definitions fixed.limits.entries (steps_ahead l ready.looked_at) ps prepared.wide) (some_steps steps none) ready.steps) is_some
+
+    pub is_there : 0 < length old.tail.changes.items
+    is_there = omega (arith, ap length (h.stands.changes ∙ first.next))
+
+    pub not_all : unwritten l ≡ [] → ⊥
+    not_all empty = absurd (omega (arith, ap length (sym first.next ∙ empty)))
+
+    -- the fault of the next change
+    pub refuses : (count : ℕ) → prepared.wide ≡ Some count → (fault : WriteFault) → IsTooWide old count fault → Writes fixed history (wanted steps) old (Err fault)
+    refuses count is fault named =
+        let same : count ≡ first.count = the_count count first.count (sym is ∙ first.counted) in
+        let counted : count ≡ fixed.limits.entries + 1 = same ∙ first.is_wide.1 in
+        (wide fixed.limits l old h.stands.changes h.stands.last fault first.first first.rest first.next first.is_wide.0 (subst (λ (n : ℕ). IsTooWide old n fault) counted named), h)
+      where
+        the_count : (a b : ℕ) → Some a ≡ Some b → a ≡ b
+        the_count a b e = cc
