@@ -1,12 +1,11 @@
 -- Prepared changes are planned as the next changes are.
-use Rattle.std.proofs.Common.{◌≡◌, ◌≢◌, ℕ, zero, suc, ◌+◌, ◌≤◌, ◌<◌, inl, inr, List, [], ◌∷◌, Option, Some, None, refl, sym, ap, ◌∙◌, subst, length, take, arith}
-use Rattle.std.specs.Prelude.{Result, Ok, Err, IsSome, ◌⊎◌}
-use Rattle.std.specs.FinMap.Entries.{find}
-use Rattle.ps_rows.specs.Source.{Key, key_cmp}
+use Rattle.std.proofs.Common.{◌≡◌, ℕ, zero, suc, ◌+◌, ◌≤◌, ◌<◌, List, [], ◌∷◌, ◌++◌, Option, Some, None, refl, sym, ap, ◌∙◌, subst, length, take, drop, fold, get_or, arith, length-take}
+use Rattle.std.proofs.lemmas.Option.{slice_get_read}
+use Rattle.std.proofs.lemmas.List.{drop_more, drop_all}
+use Rattle.std.specs.Prelude.{Result, Ok, Err, IsSome, slice_get}
 use Rattle.ps_definitions.specs.declared.definitions.Definition.{Definition}
 use Rattle.ps_definitions.specs.RuleSets.{RuleSet}
-use Rattle.ps_bucket_eval.specs.Ahead.{AreSteps, IsStep, IsWide, entries_left}
-use Rattle.ps_bucket_eval.specs.declared.ahead.AheadStep.{AheadStep}
+use Rattle.ps_bucket_eval.specs.Ahead.{AreSteps, IsStep, IsWide}
 use Rattle.ps_bucket_eval.specs.declared.ahead.Prepared.{Prepared}
 use Rattle.ps_bucket_eval.specs.declared.ahead.PreparedStep.{PreparedStep}
 use Rattle.ps_store.specs.declared.events.Event.{Event}
@@ -14,18 +13,24 @@ use Rattle.ps_store.specs.declared.faults.WriteFault.{WriteFault}
 use Rattle.ps_store.specs.declared.faults.WriteFault.TheVariants as writing
 use Rattle.ps_store.specs.declared.fixed.Fixed.{Fixed}
 use Rattle.ps_store.specs.declared.fixed.Limits.{Limits}
+use Rattle.ps_store.specs.declared.plans.Plan.{Plan}
 use Rattle.ps_store.specs.declared.plans.Planned.{Planned}
+use Rattle.ps_store.specs.declared.plans.Refusal.{Refusal}
+use Rattle.ps_store.specs.declared.rows.Rows.{Rows as StoreRows}
 use Rattle.ps_store.specs.declared.stores.Store.{Store}
 use Rattle.ps_store.specs.declared.stores.Wrote.{Wrote}
 use Rattle.ps_store.specs.Ahead.{Rows, rows_in, row_after, step_of, steps_from, steps_ahead, IsReady, IsHere, wanted, WritesPrepared}
 use Rattle.ps_store.specs.Batches.{IsPlanned}
-use Rattle.ps_store.specs.Ledgers.{Ledger, unwritten, entries_after, ledger_of}
-use Rattle.ps_store.specs.Originals.{Timed, columns_of}
-use Rattle.ps_store.specs.Plans.{IsStart, IsRun, AreMade}
-use Rattle.ps_store.specs.Runs.{run_from}
+use Rattle.ps_store.specs.Ledgers.{Ledger, unwritten, write_next, ledger_of}
+use Rattle.ps_store.specs.Originals.{Timed, columns_of, key_of, entries_at, standing_entries}
+use Rattle.ps_store.specs.Plans.{PlanStands, IsStart, IsRun, IsMade, AreMade, with_change}
+use Rattle.ps_store.specs.Runs.{Run, refusal_of, run_from}
 use Rattle.ps_store.specs.StoreGenerations.{by_of}
-use Rattle.ps_store.specs.Stores.{StoreStandsFor, IsTooWide, IsRefused, Writes}
+use Rattle.ps_store.specs.Stores.{StoreStandsFor, IsTooWide, Writes}
+use Rattle.ps_store.proofs.Lanes.{fold_push, next_rules}
 use Rattle.ps_store.proofs.Refusing.{wide}
+use Rattle.ps_store.proofs.Running.{next_is, front_is, run_is}
+use Rattle.ps_store.proofs.Sources.{columns_after}
 
 -- what was prepared of the next changes is made of them
 steps_are_made : (definitions : List Definition) (top count : ℕ) (rows : Rows) (us : List Timed) (ps : List PreparedStep) (wide : Option ℕ)
@@ -99,7 +104,7 @@ module _ (fixed : Fixed) (old : Store) (history : List Event) (h : StoreStandsFo
 
   pub planned_is : (planned : Planned)
       → ((base : Ledger) → IsStart (by_of old).rules old.rows old.last.0 base → AreMade (by_of old).rules.definitions (by_of old).limits.entries (rows_in base) steps old.tail.changes.items
-        → IsRun (by_of old).rules old.rows old.tail.changes.items base planned (take (length steps) old.tail.changes.items) (run_from (by_of old).limits base 0 (take (length steps) old.tail.changes.items)))
+      → IsRun (by_of old).rules old.rows old.tail.changes.items base planned (take (length steps) old.tail.changes.items) (run_from (by_of old).limits base 0 (take (length steps) old.tail.changes.items)))
       → IsPlanned old (length steps) planned (by_of old)
   planned_is planned said = λ base start. said base start (made_over base start)
 
@@ -126,3 +131,87 @@ module _ (fixed : Fixed) (old : Store) (history : List Event) (h : StoreStandsFo
       where
         the_count : (a b : ℕ) → Some a ≡ Some b → a ≡ b
         the_count a b e = cc
+
+-- ---- a plan of prepared changes goes on
+
+-- the plan has the first changes, the run goes on behind them, and what is left is prepared of the changes that are left
+pub record IsUnderway (rules : RuleSet) (limits : Limits) (rows : StoreRows) (changes : List Timed) (base : Ledger) (count place : ℕ) (plan : Plan) (left : List PreparedStep) : Type 0 where
+  pub plan : PlanStands rules rows changes plan base (take place (take count changes))
+  pub run : run_from limits (fold write_next base (take place (take count changes))) place (drop place (take count changes)) ≡ run_from limits base 0 (take count changes)
+  pub left : AreMade rules.definitions limits.entries (rows_in (fold write_next base (take place (take count changes)))) left (drop place changes)
+
+pub begins : (rules : RuleSet) (limits : Limits) (rows : StoreRows) (changes : List Timed) (base : Ledger) (count : ℕ) (plan : Plan) (steps : List PreparedStep)
+    → PlanStands rules rows changes plan base [] → AreMade rules.definitions limits.entries (rows_in base) steps changes → IsUnderway rules limits rows changes base count 0 plan steps
+begins rules limits rows changes base count plan steps stands made = record { plan = stands; run = refl; left = made }
+
+module _ (rules : RuleSet) (limits : Limits) (rows : StoreRows) (changes : List Timed) (base : Ledger) (count place : ℕ) (plan : Plan) (p : PreparedStep) (left : List PreparedStep)
+    (u : IsUnderway rules limits rows changes base count place plan (p ∷ left)) (within : place < count) (inside : count ≤ length changes) (t : Timed) (is : t ≡ get_or changes place t) where
+  abbrev ys : List Timed
+  ys = take count changes
+
+  abbrev here : Ledger
+  here = fold write_next base (take place ys)
+
+  rest_is : drop place changes ≡ t ∷ drop (place + 1) changes
+  rest_is = drop_more changes place t (omega (arith, within, inside)) ∙ ap (λ (x : Timed). x ∷ drop (place + 1) changes) (sym is)
+
+  prepared_is : IsStep rules.definitions limits.entries (step_of (rows_in here) t) p × AreMade rules.definitions limits.entries (row_after (rows_in here) t) left (drop (place + 1) changes)
+  prepared_is = subst (λ (us : List Timed). AreMade rules.definitions limits.entries (rows_in here) (p ∷ left) us) rest_is u.left
+
+  rules_are : here.force.rules ≡ rules
+  rules_are = next_rules (take place ys) base ∙ u.plan.rules_are
+
+  pub made_is : IsMade limits here t (record { before = p.before; after = p.after })
+  made_is = record {
+    before = prepared_is.0.before ∙ ap (λ (r : RuleSet). standing_entries r.definitions here.force.source (key_of t)) (sym rules_are);
+    after = prepared_is.0.after ∙ ap (λ (r : RuleSet). entries_at r.definitions (key_of t) t.change.row) (sym rules_are);
+    narrow = prepared_is.0.narrow;
+  }
+
+  next : drop place ys ≡ t ∷ drop (place + 1) ys
+  next = next_is changes count place t within (omega (arith, within, inside)) is
+
+  front : take (place + 1) ys ≡ take place ys ++ t ∷ []
+  front = front_is changes count place t within (omega (arith, within, inside)) is
+
+  pub there : slice_get changes (length (take place ys)) ≡ Some t
+  there = slice_get_read changes (length changes) (length (take place ys)) t refl (omega (arith, length-take place ys, length-take count changes, within, inside))
+      (is ∙ ap (λ k. get_or changes k t) (sym (omega (arith, length-take place ys, length-take count changes, within, inside) : length (take place ys) ≡ place)))
+
+  pub goes_on : (new : Plan) (refusal : Option Refusal) → refusal ≡ None → refusal ≡ refusal_of limits here t → PlanStands rules rows changes new base (with_change refusal (take place ys) t)
+      → IsUnderway rules limits rows changes base count (place + 1) new left
+  goes_on new refusal none why stands =
+      let after : fold write_next base (take (place + 1) ys) ≡ write_next here t = ap (fold write_next base) front ∙ fold_push write_next (take place ys) t base in
+      let rows_are : row_after (rows_in here) t ≡ rows_in (fold write_next base (take (place + 1) ys)) =
+      (λ i key. sym (columns_after here.force.source t key) i) ∙ ap (λ (l : Ledger). rows_in l) (sym after) in
+      record {
+        plan = subst (λ (us : List Timed). PlanStands rules rows changes new base us) (sym front)
+            (subst (λ (o : Option Refusal). PlanStands rules rows changes new base (with_change o (take place ys) t)) none stands);
+        run =
+            ap (λ (l : Ledger). run_from limits l (place + 1) (drop (place + 1) ys)) after
+            ∙ sym (run_is limits here place (drop place ys) (drop (place + 1) ys) t None next (sym none ∙ why))
+            ∙ u.run;
+        left = subst (λ (seen : Rows). AreMade rules.definitions limits.entries seen left (drop (place + 1) changes)) rows_are prepared_is.1;
+      }
+
+  pub stops : (new : Plan) (given refusal : Refusal) (said : Option Refusal) → said ≡ Some refusal → said ≡ refusal_of limits here t → PlanStands rules rows changes new base (with_change said (take place ys) t)
+      → IsRun rules rows changes base (record { plan = new; count = place; refusal = Some refusal }) ys (run_from limits base 0 ys)
+  stops new given refusal said is_said why stands =
+      let run : run_from limits here place (drop place ys) ≡ record { ledger = here; count = place; refusal = Some refusal } =
+      run_is limits here place (drop place ys) (drop (place + 1) ys) t (Some refusal) next (sym is_said ∙ why) in
+      subst (λ (r : Run). IsRun rules rows changes base (record { plan = new; count = place; refusal = Some refusal }) ys r) (sym run ∙ u.run) (record {
+        plan = subst (λ (o : Option Refusal). PlanStands rules rows changes new base (with_change o (take place ys) t)) is_said stands;
+        count = refl;
+        refusal = refl;
+      })
+
+-- all are planned
+pub ends : (rules : RuleSet) (limits : Limits) (rows : StoreRows) (changes : List Timed) (base : Ledger) (count place : ℕ) (plan : Plan) (left : List PreparedStep)
+    → IsUnderway rules limits rows changes base count place plan left → count ≤ place → place ≤ count → count ≤ length changes
+    → IsRun rules rows changes base (record { plan = plan; count = place; refusal = None }) (take count changes) (run_from limits base 0 (take count changes))
+ends rules limits rows changes base count place plan left u low high inside =
+    let ys : List Timed = take count changes in
+    let here : Ledger = fold write_next base (take place ys) in
+    let none : drop place ys ≡ [] = drop_all place ys (omega (arith, length-take count changes, low)) in
+    let run : run_from limits here place (drop place ys) ≡ record { ledger = here; count = place; refusal = None } = ap (run_from limits here place) none in
+    subst (λ (r : Run). IsRun rules rows changes base (record { plan = plan; count = place; refusal = None }) ys r) (sym run ∙ u.run) (record { plan = u.plan; count = refl; refusal = refl })

@@ -12,27 +12,8 @@ use Rattle.ps_store.specs.Plans.{PlanStands, IsStart, IsRun, with_change}
 use Rattle.ps_store.specs.Runs.{Run, refusal_of, stopped, run_from}
 use Rattle.ps_store.proofs.Lanes.{fold_push}
 use Rattle.ps_store.proofs.Planning.{stands_none}
+use Rattle.ps_store.proofs.Running.{there_is, next_is, front_is, run_is}
 use Rattle.ps_store.proofs.plans.plan_run.Goals as goal
-
--- a change stands at each place within
-there_is : (xs : List Timed) (k : ℕ) → k < length xs → (t : Timed) × (t ≡ get_or xs k t)
-there_is [] k h = absurd (omega (arith, h))
-there_is (x ∷ xs) zero h = (x, refl)
-there_is (x ∷ xs) (suc k) h = there_is xs k (omega (arith, h))
-
--- the next change of those that are looked at
-next_is : (xs : List Timed) (n k : ℕ) (t : Timed) → k < n → k < length xs → t ≡ get_or xs k t → drop k (take n xs) ≡ t ∷ drop (k + 1) (take n xs)
-next_is xs n k t below within is =
-    drop_more (take n xs) k t (omega (arith, length-take n xs)) ∙ ap (λ x. x ∷ drop (k + 1) (take n xs)) (get_or-take n xs k t below ∙ sym is)
-
-front_is : (xs : List Timed) (n k : ℕ) (t : Timed) → k < n → k < length xs → t ≡ get_or xs k t → take (k + 1) (take n xs) ≡ take k (take n xs) ++ t ∷ []
-front_is xs n k t below within is =
-    take_more (take n xs) k t (omega (arith, length-take n xs)) ∙ ap (λ x. take k (take n xs) ++ x ∷ []) (get_or-take n xs k t below ∙ sym is)
-
-run_is : (limits : Limits) (l : Ledger) (k : ℕ) (ts rest : List Timed) (t : Timed) (refusal : Option Refusal) → ts ≡ t ∷ rest → refusal ≡ refusal_of limits l t
-    → run_from limits l k ts ≡ stopped l k refusal (run_from limits (write_next l t) (k + 1) rest)
-run_is limits l k ts rest t refusal is why =
-    ap (run_from limits l k) is ∙ ap (λ r. stopped l k r (run_from limits (write_next l t) (k + 1) rest)) (sym why)
 
 pub changes-init : goal.changes-init
 changes-init c = λ base start.
