@@ -63,6 +63,7 @@ pub mod Reading
 pub mod Recording
 pub mod Refusing
 pub mod Replays
+pub mod Running
 pub mod Sent
 pub mod Sources
 pub mod Standings

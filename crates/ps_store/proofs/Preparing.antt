@@ -54,11 +54,15 @@ record IsFirstWide (definitions : List Definition) (top : ℕ) (rows : Rows) (us
   counted : wide ≡ Some count
   is_wide : IsWide definitions top (step_of rows first) count
 
+not_none : (wide : Option ℕ) → wide ≡ None → IsSome wide → ⊥
+not_none None none some = absurd (cc)
+not_none (Some n) none some = absurd (cc)
+
 first_is_wide : (definitions : List Definition) (top count : ℕ) (rows : Rows) (us : List Timed) (wide : Option ℕ)
     → AreSteps definitions top (steps_from rows (take count us)) [] wide → IsSome wide → IsFirstWide definitions top rows us wide
-first_is_wide definitions top zero rows us wide h some = absurd (rw h at some)
-first_is_wide definitions top (suc count) rows [] wide h some = absurd (rw h at some)
-first_is_wide definitions top (suc count) rows (t ∷ us) None h some = absurd some
+first_is_wide definitions top zero rows us wide h some = absurd (not_none wide h some)
+first_is_wide definitions top (suc count) rows [] wide h some = absurd (not_none wide h some)
+first_is_wide definitions top (suc count) rows (t ∷ us) None h some = absurd (not_none None refl some)
 first_is_wide definitions top (suc count) rows (t ∷ us) (Some n) h some = record { first = t; rest = us; count = n; next = refl; counted = refl; is_wide = h }
 
 pub wanted_some : (ps : List PreparedStep) → 1 ≤ length ps → wanted ps ≡ length ps
@@ -136,13 +140,13 @@ module _ (fixed : Fixed) (old : Store) (history : List Event) (h : StoreStandsFo
 
 -- the plan has the first changes, the run goes on behind them, and what is left is prepared of the changes that are left
 pub record IsUnderway (rules : RuleSet) (limits : Limits) (rows : StoreRows) (changes : List Timed) (base : Ledger) (count place : ℕ) (plan : Plan) (left : List PreparedStep) : Type 0 where
-  pub plan : PlanStands rules rows changes plan base (take place (take count changes))
-  pub run : run_from limits (fold write_next base (take place (take count changes))) place (drop place (take count changes)) ≡ run_from limits base 0 (take count changes)
-  pub left : AreMade rules.definitions limits.entries (rows_in (fold write_next base (take place (take count changes)))) left (drop place changes)
+  pub stands : PlanStands rules rows changes plan base (take place (take count changes))
+  pub runs : run_from limits (fold write_next base (take place (take count changes))) place (drop place (take count changes)) ≡ run_from limits base 0 (take count changes)
+  pub prepared : AreMade rules.definitions limits.entries (rows_in (fold write_next base (take place (take count changes)))) left (drop place changes)
 
 pub begins : (rules : RuleSet) (limits : Limits) (rows : StoreRows) (changes : List Timed) (base : Ledger) (count : ℕ) (plan : Plan) (steps : List PreparedStep)
     → PlanStands rules rows changes plan base [] → AreMade rules.definitions limits.entries (rows_in base) steps changes → IsUnderway rules limits rows changes base count 0 plan steps
-begins rules limits rows changes base count plan steps stands made = record { plan = stands; run = refl; left = made }
+begins rules limits rows changes base count plan steps stands made = record { stands = stands; runs = refl; prepared = made }
 
 module _ (rules : RuleSet) (limits : Limits) (rows : StoreRows) (changes : List Timed) (base : Ledger) (count place : ℕ) (plan : Plan) (p : PreparedStep) (left : List PreparedStep)
     (u : IsUnderway rules limits rows changes base count place plan (p ∷ left)) (within : place < count) (inside : count ≤ length changes) (t : Timed) (is : t ≡ get_or changes place t) where
@@ -156,10 +160,10 @@ module _ (rules : RuleSet) (limits : Limits) (rows : StoreRows) (changes : List 
   rest_is = drop_more changes place t (omega (arith, within, inside)) ∙ ap (λ (x : Timed). x ∷ drop (place + 1) changes) (sym is)
 
   prepared_is : IsStep rules.definitions limits.entries (step_of (rows_in here) t) p × AreMade rules.definitions limits.entries (row_after (rows_in here) t) left (drop (place + 1) changes)
-  prepared_is = subst (λ (us : List Timed). AreMade rules.definitions limits.entries (rows_in here) (p ∷ left) us) rest_is u.left
+  prepared_is = subst (λ (us : List Timed). AreMade rules.definitions limits.entries (rows_in here) (p ∷ left) us) rest_is u.prepared
 
   rules_are : here.force.rules ≡ rules
-  rules_are = next_rules (take place ys) base ∙ u.plan.rules_are
+  rules_are = next_rules (take place ys) base ∙ u.stands.rules_are
 
   pub made_is : IsMade limits here t (record { before = p.before; after = p.after })
   made_is = record {
@@ -175,8 +179,9 @@ module _ (rules : RuleSet) (limits : Limits) (rows : StoreRows) (changes : List 
   front = front_is changes count place t within (omega (arith, within, inside)) is
 
   pub there : slice_get changes (length (take place ys)) ≡ Some t
-  there = slice_get_read changes (length changes) (length (take place ys)) t refl (omega (arith, length-take place ys, length-take count changes, within, inside))
-      (is ∙ ap (λ k. get_or changes k t) (sym (omega (arith, length-take place ys, length-take count changes, within, inside) : length (take place ys) ≡ place)))
+  there =
+      let same : length (take place ys) ≡ place = omega (arith, length-take place ys, length-take count changes, within, inside) in
+      ap (slice_get changes) same ∙ slice_get_read changes (length changes) place t refl (omega (arith, within, inside)) is
 
   pub goes_on : (new : Plan) (refusal : Option Refusal) → refusal ≡ None → refusal ≡ refusal_of limits here t → PlanStands rules rows changes new base (with_change refusal (take place ys) t)
       → IsUnderway rules limits rows changes base count (place + 1) new left
@@ -185,13 +190,13 @@ module _ (rules : RuleSet) (limits : Limits) (rows : StoreRows) (changes : List 
       let rows_are : row_after (rows_in here) t ≡ rows_in (fold write_next base (take (place + 1) ys)) =
       (λ i key. sym (columns_after here.force.source t key) i) ∙ ap (λ (l : Ledger). rows_in l) (sym after) in
       record {
-        plan = subst (λ (us : List Timed). PlanStands rules rows changes new base us) (sym front)
+        stands = subst (λ (us : List Timed). PlanStands rules rows changes new base us) (sym front)
             (subst (λ (o : Option Refusal). PlanStands rules rows changes new base (with_change o (take place ys) t)) none stands);
-        run =
+        runs =
             ap (λ (l : Ledger). run_from limits l (place + 1) (drop (place + 1) ys)) after
             ∙ sym (run_is limits here place (drop place ys) (drop (place + 1) ys) t None next (sym none ∙ why))
-            ∙ u.run;
-        left = subst (λ (seen : Rows). AreMade rules.definitions limits.entries seen left (drop (place + 1) changes)) rows_are prepared_is.1;
+            ∙ u.runs;
+        prepared = subst (λ (seen : Rows). AreMade rules.definitions limits.entries seen left (drop (place + 1) changes)) rows_are prepared_is.1;
       }
 
   pub stops : (new : Plan) (given refusal : Refusal) (said : Option Refusal) → said ≡ Some refusal → said ≡ refusal_of limits here t → PlanStands rules rows changes new base (with_change said (take place ys) t)
@@ -199,7 +204,7 @@ module _ (rules : RuleSet) (limits : Limits) (rows : StoreRows) (changes : List 
   stops new given refusal said is_said why stands =
       let run : run_from limits here place (drop place ys) ≡ record { ledger = here; count = place; refusal = Some refusal } =
       run_is limits here place (drop place ys) (drop (place + 1) ys) t (Some refusal) next (sym is_said ∙ why) in
-      subst (λ (r : Run). IsRun rules rows changes base (record { plan = new; count = place; refusal = Some refusal }) ys r) (sym run ∙ u.run) (record {
+      subst (λ (r : Run). IsRun rules rows changes base (record { plan = new; count = place; refusal = Some refusal }) ys r) (sym run ∙ u.runs) (record {
         plan = subst (λ (o : Option Refusal). PlanStands rules rows changes new base (with_change o (take place ys) t)) is_said stands;
         count = refl;
         refusal = refl;
@@ -214,4 +219,4 @@ ends rules limits rows changes base count place plan left u low high inside =
     let here : Ledger = fold write_next base (take place ys) in
     let none : drop place ys ≡ [] = drop_all place ys (omega (arith, length-take count changes, low)) in
     let run : run_from limits here place (drop place ys) ≡ record { ledger = here; count = place; refusal = None } = ap (run_from limits here place) none in
-    subst (λ (r : Run). IsRun rules rows changes base (record { plan = plan; count = place; refusal = None }) ys r) (sym run ∙ u.run) (record { plan = u.plan; count = refl; refusal = refl })
+    subst (λ (r : Run). IsRun rules rows changes base (record { plan = plan; count = place; refusal = None }) ys r) (sym run ∙ u.runs) (record { plan = u.stands; count = refl; refusal = refl })

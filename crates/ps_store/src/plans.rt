@@ -402,6 +402,18 @@ pub(crate) fn plan_run(
     })
 }
 
+// The entries of a prepared change. Takes no memory.
+fn entries_of(step: PreparedStep) -> ChangeEntries
+    ensures { result ≡ record { before = step.before; after = step.after } }
+{
+    let PreparedStep {
+        change: _,
+        before,
+        after,
+    } = step;
+    ChangeEntries { before, after }
+}
+
 /// Plans a write of prepared changes, which are the first ones: as many of them as can be written.
 pub(crate) fn plan_prepared(
     alloc: Global,
@@ -422,22 +434,15 @@ pub(crate) fn plan_prepared(
     'steps: for step in steps {
         let waiting = &changes[place];
         let key = waiting.key(alloc)?;
-        let PreparedStep {
-            change: _,
-            before,
-            after,
-        } = step;
-        let entries = ChangeEntries { before, after };
-        match plan.keep(alloc, fixed, key, waiting, entries)? {
-            None => place += 1,
-            Some(refusal) => {
-                return Ok(Planned {
-                    plan,
-                    count: place,
-                    refusal: Some(refusal),
-                });
-            }
+        let entries = entries_of(step);
+        if let Some(refusal) = plan.keep(alloc, fixed, key, waiting, entries)? {
+            return Ok(Planned {
+                plan,
+                count: place,
+                refusal: Some(refusal),
+            });
         }
+        place += 1;
     }
     Ok(Planned {
         plan,
