@@ -46,7 +46,7 @@ pub(crate) fn steps_of(
 
 // An equal row, where there is one.
 fn copy_row(alloc: Global, row: Option<&Row>) -> Result<Option<Row>, Memory>
-    ensures { IfOk result (λ copy. copy ≡ option_copied row) }
+    ensures { IfOk result (λ copy. copy ≡ option_copied row.entry) }
 {
     match row {
         Some(row) => Ok(Some(row.copy(alloc)?)),
