@@ -67,7 +67,7 @@ writes_stay n l some there =
     }
 
 switch_stays : (o : Option Coming) (l : Ledger) → l.building ≡ o → IsSome o → IsWell l → Stays l (switch_to o l)
-switch_stays None l is some h = absurd some
+switch_stays None l is some h = absurd (cc)
 switch_stays (Some c) l is some h =
     let later : l.force.number < c.lane.number = (rw is at h.coming).2 in
     record {
@@ -121,7 +121,7 @@ next_stay l n within h w g limit =
     let more : List Transaction = h.fed.0 in
     let all : timed n.fed ≡ timed l.fed ++ timed more = ap timed h.fed.1 ∙ timed_all l.fed more in
     let rest : unwritten n ≡ unwritten l ++ timed more = ap (λ k. drop k (timed n.fed)) w ∙ ap (drop l.written) all ∙ drop_front l.written (timed l.fed) (timed more) within in
-    let rows : rows_in n ≡ rows_in l = ap (λ (lane : Lane) (key : Key). columns_of (find key_cmp key lane.source)) (h.same w g) in
+    let rows : rows_in n ≡ rows_in l = λ i key. columns_of (find key_cmp key (h.same w g i).source) in
     let k : ℕ = length (take limit (unwritten l)) in
     sym (ap (λ (us : List Timed). steps_from (rows_in n) (take k us)) rest ∙ ap (steps_from (rows_in n)) (take_front limit (unwritten l) (timed more)) ∙ ap (λ (rows : Rows). steps_from rows (take limit (unwritten l))) rows)
 

@@ -1,4 +1,4 @@
-use Rattle.std.proofs.Common.{◌≡◌, List, sym, ap, ◌∙◌, rules}
+use Rattle.std.proofs.Common.{◌≡◌, sym, ap, ◌∙◌, take}
 use Rattle.ps_store.specs.declared.fixed.Fixed.{Fixed}
 use Rattle.ps_store.specs.declared.totals.Totals.{Totals}
 use Rattle.ps_store.specs.Originals.{columns_of}
@@ -11,7 +11,7 @@ returns c = λ fixed history h.
     let l = ledger_of fixed.rules history in
     record {
       from = ap (λ (t : Totals). t.changes) h.stands.totals;
-      generation = h.stands.generations.number;
+      generation = h.stands.generations.number_is;
       top = ap (λ limits. limits.entries) c.limits.ensures ∙ ap (λ (f : Fixed). f.limits.entries) h.fixed_is;
       rules = c.in_ok-share.ensures ∙ ap (λ (f : Fixed). f.rules) c.by.ensures ∙ sym h.stands.rules;
       steps =
