@@ -6,3 +6,5 @@ pub mod Noting
 pub mod Walking
 pub mod Heads
 pub mod Fronts
+pub mod Viewing
+pub mod Sharing

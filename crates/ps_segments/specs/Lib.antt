@@ -1,3 +1,4 @@
 pub mod Depths
 pub mod Segmented
 pub mod Reading
+pub mod Views

@@ -1,11 +1,12 @@
 //! The entries of a log, which are looked at by counted looks.
 
-ghost use Rattle.std.specs.Prelude.{◌≡◌, ◌+◌};
+ghost use Rattle.std.specs.Prelude.{◌≡◌, ◌+◌, IfOk};
 ghost use Rattle.ps_bucket_log.specs.Ops.{id_of};
 
 use ps_bucket_log::{Op, Placed, Steps};
 use ps_checksum::Sum;
-use ps_data::OpId;
+use ps_data::{Memory, OpId};
+use std::alloc::Global;
 use std::marker::Model;
 use std::sync::ledger::Ledger;
 
@@ -18,6 +19,20 @@ pub struct Entry {
     pub sum: Sum,
     /// How many operations there are.
     pub count: u64,
+}
+
+impl Entry {
+    /// An equal entry.
+    pub fn copy(&self, alloc: Global) -> Result<Entry, Memory>
+        ensures { IfOk result (λ copy. copy ≡ self.now) }
+    {
+        let op = self.op.copy(alloc)?;
+        Ok(Entry {
+            op,
+            sum: self.sum,
+            count: self.count,
+        })
+    }
 }
 
 /// An entry in its place. Who counts looks sees it by `look` alone.

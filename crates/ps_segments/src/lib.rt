@@ -5,6 +5,8 @@ mod entries;
 mod runs;
 mod segment_logs;
 mod segments;
+mod views;
 mod walks;
 
 pub use segment_logs::SegmentLog;
+pub use views::BatchView;

@@ -10,6 +10,7 @@ ghost use Rattle.ps_segments.specs.Segmented.{ops_of, entries_of, run_of, head_i
 
 use crate::entries::{Entry, Noted};
 use crate::segments::Segment;
+use crate::views::{BatchView, view_from};
 use crate::walks::read_from;
 use ps_bucket_log::{Batch, Op, Steps, place_past};
 use ps_data::{Items, Memory, OpId};
@@ -156,6 +157,29 @@ pub fn read_runs<L: Ledger>(
     }
     let Cut { run, place } = cut_past(sealed, growing, after, steps);
     read_from(alloc, &sealed[run..], growing, place, upto, steps)
+}
+
+/// What `read_runs` gives, before it is made.
+pub fn view_runs<L: Ledger>(
+    alloc: Global,
+    sealed: &[Segment],
+    growing: &[Noted],
+    after: OpId,
+    upto: OpId,
+    steps: &mut Steps<L>,
+) -> Result<BatchView, Memory>
+    requires { IsSegmented sealed.now growing.now }
+    ensures value { IfOk result (λ view.
+        view ≡ batch_of after.0 upto.0 (ops_of (entries_of sealed.now growing.now))) }
+    ensures cost { (d : ℕ) → IsDepth (length (ops_of (entries_of sealed.now growing.now))) d
+        → steps.new ≤ steps.old + 2 * d + 1300 }
+{
+    let clear = clear_id(sealed, growing, steps);
+    if upto.0 < clear.0 {
+        return Ok(BatchView::empty(alloc, Some(clear)));
+    }
+    let Cut { run, place } = cut_past(sealed, growing, after, steps);
+    view_from(alloc, &sealed[run..], growing, place, upto, steps)
 }
 
 // Equal operations of a run, behind others.

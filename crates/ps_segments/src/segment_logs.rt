@@ -8,8 +8,9 @@ ghost use Rattle.ps_segments.specs.Depths.{IsDepth};
 ghost use Rattle.ps_segments.specs.Segmented.{IsLastOf};
 
 use crate::entries::{Entry, Noted};
-use crate::runs::{copy_runs, last_upto, read_runs};
+use crate::runs::{copy_runs, last_upto, read_runs, view_runs};
 use crate::segments::Segment;
+use crate::views::BatchView;
 use ps_bucket_log::{Batch, Log, Op, Steps};
 use ps_checksum::{Sum, add};
 use ps_data::{Items, Memory, OpId};
@@ -57,6 +58,29 @@ impl SegmentLog {
             total: Sum(0),
             count: 0,
         }
+    }
+
+    /// What `read` gives, before it is made: the batch can be made once the log is let go, and while it changes. It takes at most
+    /// 2d + 1,300 steps, with d the greatest number for which 2^d is at most 2N + 1, of a log of N operations.
+    pub fn read_view<L: Ledger>(
+        &self,
+        alloc: Global,
+        after: OpId,
+        upto: OpId,
+        steps: &mut Steps<L>,
+    ) -> Result<BatchView, Memory>
+        ensures value { IfOk result (λ view. view ≡ batch_of after.0 upto.0 self.now.ops) }
+        ensures cost { (d : ℕ) → IsDepth (length self.now.ops) d
+            → steps.new ≤ steps.old + 2 * d + 1300 }
+    {
+        view_runs(
+            alloc,
+            self.sealed.as_slice(),
+            self.growing.as_slice(),
+            after,
+            upto,
+            steps,
+        )
     }
 
     // Puts an operation at the end, in room that is there.

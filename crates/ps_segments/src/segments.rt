@@ -5,7 +5,7 @@ ghost use Rattle.ps_segments.specs.Segmented.{head_id};
 
 use crate::entries::Noted;
 use ps_bucket_log::{Placed, Steps};
-use ps_data::OpId;
+use ps_data::{Memory, OpId};
 use std::alloc::Global;
 use std::marker::Model;
 use std::sync::Arc;
@@ -39,6 +39,15 @@ impl Segment {
             Ok(shared) => Ok(Segment { shared }),
             Err(refused) => Err(refused.value),
         }
+    }
+
+    /// The same entries for somebody else, who may keep them as long as he likes. Takes no memory; it fails only where there are
+    /// too many who share them.
+    pub fn share(&self) -> Result<Segment, Memory>
+        ensures { IfOk result (λ segment. segment ≡ self.now) }
+    {
+        let shared = Arc::try_clone(&self.shared)?;
+        Ok(Segment { shared })
     }
 
     /// The entries, in order.
