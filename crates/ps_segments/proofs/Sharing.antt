@@ -9,6 +9,7 @@ use Rattle.ps_segments.specs.Segmented.{ops_of, entries_of, entries_from, run_of
 use Rattle.ps_segments.specs.Views.{enough_ops, IsEnough, IsReadable, IsShared}
 use Rattle.ps_segments.proofs.Orders.{IsRising-front}
 use Rattle.ps_segments.proofs.Cutting.{ops_of-append}
+use Rattle.ps_segments.proofs.Viewing.{nil_of}
 
 -- copying the front of a run
 
@@ -17,11 +18,12 @@ pub front_stops : (wanted high i : ℕ) (run front : List Entry) (e : Entry) →
 front_stops wanted high i run front e within is front_is past =
     let size : length front ≡ i = ap length front_is ∙ length-take-le i run (omega arith) in
     let next : drop i run ≡ e ∷ drop (i + 1) run = drop_more run i e within ∙ ap (λ x. x ∷ drop (i + 1) run) (sym is) in
+    let begins : head_id (drop i run) ≡ id_of e.op = ap head_id next in
     record {
       left = drop i run;
       whole = sym (take-append-drop i run) ∙ ap (λ es. es ++ drop i run) (sym front_is);
       enough = elim (cases_lt i wanted) [
-        | inl fewer ↦ inr (inr (omega (arith, ap head_id next, past fewer)))
+        | inl fewer ↦ inr (inr (omega (arith, begins, past fewer)))
         | inr many ↦ inr (inl (omega (arith, size, many)))
       ];
     }
@@ -61,7 +63,7 @@ pub counted_more : (from place i : ℕ) (sealed : List (List Entry)) (s : List E
     → length (entries_from from (take (i + 1) sealed) []) ≡ length (entries_from from (take i sealed) []) + (length s - place)
 counted_more from place i [] s within is first later = absurd (omega arith)
 counted_more from place zero (x ∷ xs) s within is first later =
-    let none : length (drop from []) ≡ 0 = ap length (drop_all from [] (omega arith)) in
+    let none : length (entries_from from [] []) ≡ 0 = ap length (drop_all from [] (omega arith)) in
     let own : length (drop from x ++ []) ≡ length x - from = ap length (append-nil (drop from x)) ∙ length-drop from x in
     let same : length s - place ≡ length x - from = ap (λ es. length es - place) is ∙ ap (λ n. length x - n) (first refl) in
     omega (arith, none, own, same)
@@ -103,18 +105,14 @@ still_enough missing high n front rest more enough = elim enough [
   ]
 ]
 
-nil_of : (xs : List Entry) → length xs ≤ 0 → xs ≡ []
-nil_of [] none = refl
-nil_of (x ∷ xs) none = absurd (omega arith)
-
 pub shared_enough : (high place missing : ℕ) (sealed segments : List (List Entry)) (growing front : List Entry) → 0 < length sealed
     → IsShared place sealed segments missing → IsEnough missing high growing front → length front ≤ missing
     → IsEnough enough_ops high (entries_from place sealed growing) (entries_from place segments front)
 shared_enough high place missing sealed [] growing front some shared enough few =
-    let none : length (drop place []) ≡ 0 = ap length (drop_all place [] (omega arith)) in
+    let none : length (entries_from place [] []) ≡ 0 = ap length (drop_all place [] (omega arith)) in
     let all : length sealed ≡ length shared.left = ap length shared.whole in
     elim shared.all [
-      | inl nothing ↦ absurd (omega (arith, some, all, ap length nothing))
+      | inl nothing ↦ let empty : length shared.left ≡ 0 = ap length nothing in absurd (omega (arith, some, all, empty))
       | inr nothing ↦ absurd (omega (arith, shared.counted, none, nothing))
     ]
 shared_enough high place missing sealed (s ∷ ss) growing front some shared enough few =
@@ -149,10 +147,10 @@ pub shared_readable : (high place missing : ℕ) (sealed segments : List (List E
     → place ≤ length (run_of 0 sealed growing) → IsRising 0 (ops_of (entries_from place sealed growing))
     → IsShared place sealed segments missing → IsEnough missing high growing front → length front ≤ missing → IsReadable place segments front
 shared_readable high place missing sealed [] growing front some within rising shared enough few =
-    let none : length (drop place []) ≡ 0 = ap length (drop_all place [] (omega arith)) in
+    let none : length (entries_from place [] []) ≡ 0 = ap length (drop_all place [] (omega arith)) in
     let all : length sealed ≡ length shared.left = ap length shared.whole in
     elim shared.all [
-      | inl nothing ↦ absurd (omega (arith, some, all, ap length nothing))
+      | inl nothing ↦ let empty : length shared.left ≡ 0 = ap length nothing in absurd (omega (arith, some, all, empty))
       | inr nothing ↦ absurd (omega (arith, shared.counted, none, nothing))
     ]
 shared_readable high place missing sealed (s ∷ ss) growing front some within rising shared enough few =

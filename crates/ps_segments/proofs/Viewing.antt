@@ -14,7 +14,7 @@ use Rattle.ps_segments.specs.Views.{enough_ops, read_upto, IsEnough, IsReadable}
 use Rattle.ps_segments.proofs.Orders.{upto-rising, upto-before, IsRising-front, IsRising-behind}
 use Rattle.ps_segments.proofs.Cutting.{ops_of-append}
 
-nil_of : {A : Type 0} (xs : List A) → length xs ≤ 0 → xs ≡ []
+pub nil_of : {A : Type 0} (xs : List A) → length xs ≤ 0 → xs ≡ []
 nil_of [] none = refl
 nil_of (x ∷ xs) none = absurd (omega arith)
 
@@ -49,7 +49,7 @@ front_on count bytes (x ∷ xs) ys less = elim (cases_Bool (takes_next count byt
 more_asked : (asked others taken : List Op) → length taken < length asked → length taken < length others → batch_from asked taken ≡ batch_from others taken
 more_asked asked others taken more also = rw (lt-ltb (length taken) (length asked) more, lt-ltb (length taken) (length others) also) refl
 
-batch_upto : List Op → Batch
+abbrev batch_upto : List Op → Batch
 batch_upto asked = batch_from asked (front_of 0 0 asked)
 
 -- of more operations than one batch may have, what is behind changes nothing
@@ -89,7 +89,7 @@ enough_read high entries front rising enough =
     let ys : List Op = ops_of enough.left in
     let whole : ops_of entries ≡ xs ++ ys = ap ops_of enough.whole ∙ ops_of-append front enough.left in
     let all : IsRising 0 (xs ++ ys) = subst (IsRising 0) whole rising in
-    let asked : upto high (ops_of entries) ≡ upto high xs ++ upto high ys = ap (upto high) whole ∙ filter-append _ xs ys in
+    let asked : upto high (ops_of entries) ≡ upto high xs ++ upto high ys = ap (λ (ops : List Op). upto high ops) whole ∙ filter-append _ xs ys in
     elim (cases_lt 0 (length (upto high ys))) [
       | inl some ↦
           let many : enough_ops ≤ length front = some_left high front enough.left (IsRising-behind 0 xs ys all) some enough.enough in

@@ -214,7 +214,8 @@ fn view_sealed<L: Ledger>(
         view ≡ read_upto upto.0 (entries_from from sealed.now growing.now)) }
     ensures cost { steps.new ≤ steps.old + 1003 }
 {
-    let Front { segments, missing } = share_front(alloc, sealed, from, steps)?;
+    let shared = share_front(alloc, sealed, from, steps)?;
+    let Front { segments, missing } = shared;
     let front = copy_front(alloc, growing, missing, upto, steps)?;
     Ok(BatchView::of_runs(segments, front, from, upto))
 }
