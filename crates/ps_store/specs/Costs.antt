@@ -22,3 +22,7 @@ TakesFew l asker before after =
 abbrev pub ReadsFew : Ledger → List ℕ → Result Batch Memory → ℕ → ℕ → Type 0
 ReadsFew l bucket read before after =
     (d : ℕ) → IsDepth (length (l.log bucket)) d → IfOk read (λ batch. after ≤ before + length batch.ops + 2 * d + 4)
+
+-- a batch that is made later needs at most 2 d + 1,300 looks in its turn, with the same d
+abbrev pub ViewsFew : Ledger → List ℕ → ℕ → ℕ → Type 0
+ViewsFew l bucket before after = (d : ℕ) → IsDepth (length (l.log bucket)) d → after ≤ before + 2 * d + 1300

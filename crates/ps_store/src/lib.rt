@@ -26,6 +26,7 @@ mod stores;
 mod tails;
 mod totals;
 mod uncounted;
+mod views;
 mod waiting;
 
 pub use deploying::{BuildFault, Built, DeployFault, NothingBuilding, SwitchFault};
@@ -44,6 +45,7 @@ pub use laws::{
 pub use numbers::have_numbers;
 pub use ps_bucket_eval::{Ahead, AheadStep, Prepared, PreparedStep, prepare};
 pub use ps_bucket_log::{Batch, Taken, TakenBucket};
+pub use ps_segments::BatchView;
 pub use readings::TakeFault;
 pub use stores::{Checkpoint, Store, Wrote};
 pub use totals::Totals;

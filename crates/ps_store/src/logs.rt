@@ -22,7 +22,7 @@ use ps_bucket_log::{Batch, Log, Op, Steps, TakenBucket};
 use ps_checksum::Sum;
 use ps_compact::{Report, compact};
 use ps_data::{Items, Memory, OpId, Text};
-use ps_segments::SegmentLog;
+use ps_segments::{BatchView, SegmentLog};
 use std::alloc::Global;
 use std::collections::BTreeMap;
 use std::sync::ledger::Ledger;
@@ -115,6 +115,24 @@ impl Logs {
                 target: None,
                 passed: None,
             }),
+        }
+    }
+
+    /// What `read` gives, before it is made.
+    pub(crate) fn read_view<L: Ledger>(
+        &self,
+        alloc: Global,
+        name: &Text,
+        after: OpId,
+        upto: OpId,
+        steps: &mut Steps<L>,
+    ) -> Result<BatchView, Memory>
+        ensures cost { (d : ℕ) → IsDepth (length (log_at self.now name.now)) d → steps.new ≤ steps.old + 2 * d + 1300 }
+        ensures value { IfOk result (λ view. view ≡ batch_of after.0 upto.0 (log_at self.now name.now)) }
+    {
+        match self.logs.get(name) {
+            Some(log) => log.read_view(alloc, after, upto, steps),
+            None => Ok(BatchView::empty(alloc, None)),
         }
     }
 

@@ -588,7 +588,7 @@ impl Store {
 
     // The logs among which a bucket's would be: those of the generation that is being built, where its mark is in front of the
     // name, else those of the one in force.
-    fn logs_of(&self, bucket: &Text) -> &Logs
+    pub(crate) fn logs_of(&self, bucket: &Text) -> &Logs
         ensures { (fixed : FixedSeen) (history : List EventSeen) → StoreStandsFor fixed self.now history
             → log_at result.now bucket.now ≡ log_of (ledger_of fixed.rules history) bucket.now }
     {
