@@ -37,6 +37,7 @@ pub(crate) fn write(alloc: Global, store: &mut Store, limit: u32) -> Result<Effe
         Err(WriteFault::NothingToWrite) => Ok(Effect::NothingToWrite),
         Err(WriteFault::TooWide { count, .. }) => Ok(Effect::TooWide { count }),
         Err(WriteFault::OpsFull { last }) => Ok(Effect::OpsFull { last }),
+        Err(WriteFault::Moved { .. }) => unreachable!(),
         Err(WriteFault::Memory) => Err(Memory),
     }
 }

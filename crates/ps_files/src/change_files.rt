@@ -134,6 +134,7 @@ fn write_some<'a>(alloc: Global, store: &mut Store) -> Result<u32, Fault<'a>>
         }),
         Err(WriteFault::Memory) => Err(Fault::Memory),
         Err(WriteFault::NothingToWrite) => unreachable!(),
+        Err(WriteFault::Moved { .. }) => unreachable!(),
     }
 }
 

@@ -72,5 +72,6 @@ fn write_some(alloc: Global, store: &mut Store) -> Result<u32, Failure>
         Err(WriteFault::OpsFull { last }) => Err(Failure::OpsFull { last }),
         Err(WriteFault::Memory) => Err(Failure::Memory),
         Err(WriteFault::NothingToWrite) => unreachable!(),
+        Err(WriteFault::Moved { .. }) => unreachable!(),
     }
 }

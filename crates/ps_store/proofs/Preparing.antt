@@ -21,7 +21,7 @@ use Rattle.ps_store.specs.declared.stores.Store.{Store}
 use Rattle.ps_store.specs.declared.stores.Wrote.{Wrote}
 use Rattle.ps_store.specs.Ahead.{Rows, rows_in, row_after, step_of, steps_from, steps_ahead, IsReady, IsHere, wanted, WritesPrepared}
 use Rattle.ps_store.specs.Batches.{IsPlanned}
-use Rattle.ps_store.specs.Ledgers.{Ledger, unwritten, write_next, ledger_of}
+use Rattle.ps_store.specs.Ledgers.{Ledger, unwritten, entries_after, write_next, ledger_of}
 use Rattle.ps_store.specs.Originals.{Timed, columns_of, key_of, entries_at, standing_entries}
 use Rattle.ps_store.specs.Plans.{PlanStands, IsStart, IsRun, IsMade, AreMade, with_change}
 use Rattle.ps_store.specs.Runs.{Run, refusal_of, run_from}
@@ -83,6 +83,10 @@ as_prepared fixed history prepared new (Err (writing.OpsFull last)) here some wr
 as_prepared fixed history prepared new (Err (writing.Moved from written generation)) here some writes = absurd writes.0
 as_prepared fixed history prepared new (Err writing.Memory) here some writes = (here, writes)
 
+-- where a change is unwritten, not all are written
+pub not_all : (fixed : Fixed) (old : Store) (history : List Event) → StoreStandsFor fixed old history → 1 ≤ length old.tail.changes.items → unwritten (ledger_of fixed.rules history) ≡ [] → ⊥
+not_all fixed old history h some none = absurd (omega (arith, some, ap length (h.stands.changes ∙ none)))
+
 module _ (fixed : Fixed) (old : Store) (history : List Event) (h : StoreStandsFor fixed old history) (prepared : Prepared) (ready : IsReady fixed.limits (ledger_of fixed.rules history) prepared) where
   abbrev l : Ledger
   l = ledger_of fixed.rules history
@@ -112,9 +116,6 @@ module _ (fixed : Fixed) (old : Store) (history : List Event) (h : StoreStandsFo
       → IsPlanned old (length steps) planned (by_of old)
   planned_is planned said = λ base start. said base start (made_over base start)
 
-  pub not_all_written : 1 ≤ length steps → unwritten l ≡ [] → ⊥
-  not_all_written some none = absurd (omega (arith, some, made_count l.force.rules.definitions fixed.limits.entries (rows_in l) steps (unwritten l) made, ap length none))
-
   module _ (none : length steps ≡ 0) (is_some : IsSome prepared.wide) where
     first : IsFirstWide l.force.rules.definitions fixed.limits.entries (rows_in l) (unwritten l) prepared.wide
     first = first_is_wide l.force.rules.definitions fixed.limits.entries ready.looked_at (rows_in l) (unwritten l) prepared.wide
@@ -123,15 +124,18 @@ module _ (fixed : Fixed) (old : Store) (history : List Event) (h : StoreStandsFo
     pub is_there : 0 < length old.tail.changes.items
     is_there = omega (arith, ap length (h.stands.changes ∙ first.next))
 
-    pub not_all : unwritten l ≡ [] → ⊥
-    not_all empty = absurd (omega (arith, ap length (sym first.next ∙ empty)))
-
-    -- the fault of the next change
-    pub refuses : (count : ℕ) → prepared.wide ≡ Some count → (fault : WriteFault) → IsTooWide old count fault → Writes fixed history (wanted steps) old (Err fault)
-    refuses count is fault named =
-        let same : count ≡ first.count = the_count count first.count (sym is ∙ first.counted) in
-        let counted : count ≡ fixed.limits.entries + 1 = same ∙ first.is_wide.1 in
-        (wide fixed.limits l old h.stands.changes h.stands.last fault first.first first.rest first.next first.is_wide.0 (subst (λ (n : ℕ). IsTooWide old n fault) counted named), h)
+    -- the fault of the next change, whatever history the store stands for
+    pub refuses : (count : ℕ) → prepared.wide ≡ Some count → (fault : WriteFault) → IsTooWide old count fault
+        → (own : Fixed) (events : List Event) → StoreStandsFor own old events → Writes own events (wanted steps) old (Err fault)
+    refuses count is fault named own events stands =
+        let l2 : Ledger = ledger_of own.rules events in
+        let limits : fixed.limits ≡ own.limits = ap (λ (f : Fixed). f.limits) (sym h.fixed_is ∙ stands.fixed_is) in
+        let rules : l.force.rules ≡ l2.force.rules = h.stands.rules ∙ sym stands.stands.rules in
+        let counted : count ≡ own.limits.entries + 1 = the_count count first.count (sym is ∙ first.counted) ∙ first.is_wide.1 ∙ ap (λ (limits : Limits). limits.entries + 1) limits in
+        let more : own.limits.entries < length (entries_after l2 first.first) =
+        subst (λ (limits : Limits). limits.entries < length (entries_after l2 first.first)) limits
+        (subst (λ (r : RuleSet). fixed.limits.entries < length (entries_at r.definitions (key_of first.first) first.first.change.row)) rules first.is_wide.0) in
+        (wide own.limits l2 old stands.stands.changes stands.stands.last fault first.first first.rest (sym stands.stands.changes ∙ h.stands.changes ∙ first.next) more (subst (λ (n : ℕ). IsTooWide old n fault) counted named), stands)
       where
         the_count : (a b : ℕ) → Some a ≡ Some b → a ≡ b
         the_count a b e = cc

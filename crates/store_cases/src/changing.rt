@@ -58,6 +58,11 @@ fn push_write_fault(out: &mut String, fault: &WriteFault) -> Result<(), Stop> {
             Ok(write!(out, "too wide {table} {id} {count}")?)
         }
         WriteFault::OpsFull { last } => Ok(write!(out, "operations full {}", last.0)?),
+        WriteFault::Moved {
+            from,
+            written,
+            generation,
+        } => Ok(write!(out, "moved {from} {written} {generation}")?),
         WriteFault::Memory => Ok(out.push_str("memory")?),
     }
 }

@@ -42,8 +42,8 @@ changes-preserved c = λ base stand.
     let put : Puts key_cmp c.changes.seen c.insert.new.self c.in_ok-key.key k = c.in_ok-insert.ensures.updates.0 in
     let seen : (other : Key) → row_or_left xs (columns_of (row_at c.args.rows.now other)) (get key_cmp c.insert.new.self other) ≡ rows_in (write_next l t) other =
     λ other. read_after key_cmp (eq_by_cmp key_cmp) tied_rows equal_rows (row_or_left xs (columns_of (row_at c.args.rows.now other))) c.changes.seen c.insert.new.self c.in_ok-key.key (Some k) put other
-        ∙ ap (λ (o : Option Timed). if eq_by_cmp key_cmp other c.in_ok-key.key then row_left o else row_or_left xs (columns_of (row_at c.args.rows.now other)) (get key_cmp c.changes.seen other)) there
-        ∙ seen_after l t c.in_ok-key.key other (row_or_left xs (columns_of (row_at c.args.rows.now other)) (get key_cmp c.changes.seen other)) c.in_ok-key.ensures (i.seen other) in
+    ∙ ap (λ (o : Option Timed). if eq_by_cmp key_cmp other c.in_ok-key.key then row_left o else row_or_left xs (columns_of (row_at c.args.rows.now other)) (get key_cmp c.changes.seen other)) there
+    ∙ seen_after l t c.in_ok-key.key other (row_or_left xs (columns_of (row_at c.args.rows.now other)) (get key_cmp c.changes.seen other)) c.in_ok-key.ensures (i.seen other) in
     let before : c.in_ok-before.before ≡ rows_in l (key_of t) = c.in_ok-before.ensures ∙ c.row_in.ensures ∙ i.seen c.in_ok-key.key ∙ ap (rows_in l) c.in_ok-key.ensures in
     let change = c.into_change-change.ensures ∙ ap (λ (w : Timed). w.change) c.in_ok-copy.ensures in
     let step : AheadStep = record { change = c.into_change-change.result; before = c.in_ok-before.before } in
