@@ -1,11 +1,10 @@
 -- What a store has ahead: the next changes, each with its row as it stands before it; and what is prepared of them.
-use Rattle.std.specs.Prelude.{◌≡◌, ◌≢◌, ℕ, ◌+◌, ◌≤◌, ◌⊎◌, if◌then◌else◌, List, [], ◌∷◌, ◌++◌, length, take, Option, Result, Ok, Err}
+use Rattle.std.specs.Prelude.{◌≡◌, ◌≢◌, ℕ, ◌+◌, ◌⊎◌, if◌then◌else◌, List, [], ◌∷◌, ◌++◌, length, take, Option, None, Result, Ok, Err}
 use Rattle.std.specs.FinMap.Entries.{find}
 use Rattle.std.specs.Ordering.{eq_by_cmp}
 use Rattle.ps_data.specs.declared.columns.Column.{Column}
 use Rattle.ps_rows.specs.Source.{Key, key_cmp}
-use Rattle.ps_definitions.specs.declared.definitions.Definition.{Definition}
-use Rattle.ps_bucket_eval.specs.Ahead.{AreSteps, IsStep, IsPrepared}
+use Rattle.ps_bucket_eval.specs.Ahead.{AreSteps, IsPrepared}
 use Rattle.ps_bucket_eval.specs.declared.ahead.Ahead.{Ahead}
 use Rattle.ps_bucket_eval.specs.declared.ahead.AheadStep.{AheadStep}
 use Rattle.ps_bucket_eval.specs.declared.ahead.Prepared.{Prepared}
@@ -17,9 +16,11 @@ use Rattle.ps_store.specs.declared.fixed.Fixed.{Fixed}
 use Rattle.ps_store.specs.declared.fixed.Limits.{Limits}
 use Rattle.ps_store.specs.declared.stores.Store.{Store}
 use Rattle.ps_store.specs.declared.stores.Wrote.{Wrote}
+use Rattle.ps_store.specs.Changing as changing
+use Rattle.ps_store.specs.Changing.{Leaves}
 use Rattle.ps_store.specs.Ledgers.{Ledger, unwritten, ledger_of}
 use Rattle.ps_store.specs.Originals.{Timed, key_of, columns_of}
-use Rattle.ps_store.specs.Stores.{StoreStandsFor, Writes}
+use Rattle.ps_store.specs.Stores.{StoreStandsFor}
 
 -- rows by their keys
 abbrev pub Rows : Type 0
@@ -73,19 +74,25 @@ IsHere l prepared = (prepared.from ≡ l.written) × (prepared.generation ≡ l.
 abbrev pub HasMoved : Ledger → Prepared → Type 0
 HasMoved l prepared = (prepared.from ≢ l.written) ⊎ (prepared.generation ≢ l.force.number)
 
--- prepared changes were written as a batch of as many is, or why nothing was
+-- at a history; `leaves` says what is left where one event is added, and where none is
+module _ (fixed : Fixed) (history : List Event) (leaves : Option Event → Type 0) where
+  -- prepared changes were written as a batch of as many is, or why nothing was
+  abbrev pub WritesAhead : Prepared → Result Wrote WriteFault → Type 0
+  WritesAhead prepared (Err (writing.Moved from written generation)) =
+      HasMoved (ledger_of fixed.rules history) prepared × (from ≡ prepared.from) × (written ≡ (ledger_of fixed.rules history).written)
+      × (generation ≡ (ledger_of fixed.rules history).force.number) × leaves None
+  WritesAhead prepared (Err writing.NothingToWrite) = ⊥
+  WritesAhead prepared (Err (writing.TooWide table id count)) =
+      IsHere (ledger_of fixed.rules history) prepared × changing.Writes fixed history leaves (wanted prepared.steps.items) (Err (writing.TooWide table id count))
+  WritesAhead prepared (Err (writing.OpsFull last)) =
+      IsHere (ledger_of fixed.rules history) prepared × changing.Writes fixed history leaves (wanted prepared.steps.items) (Err (writing.OpsFull last))
+  WritesAhead prepared (Err writing.Memory) =
+      IsHere (ledger_of fixed.rules history) prepared × changing.Writes fixed history leaves (wanted prepared.steps.items) (Err writing.Memory)
+  WritesAhead prepared (Ok wrote) = IsHere (ledger_of fixed.rules history) prepared × changing.Writes fixed history leaves (wanted prepared.steps.items) (Ok wrote)
+
+-- the same of a store
 abbrev pub WritesPrepared : Fixed → List Event → Prepared → Store → Result Wrote WriteFault → Type 0
-WritesPrepared fixed history prepared new (Err (writing.Moved from written generation)) =
-    HasMoved (ledger_of fixed.rules history) prepared × (from ≡ prepared.from) × (written ≡ (ledger_of fixed.rules history).written)
-    × (generation ≡ (ledger_of fixed.rules history).force.number) × StoreStandsFor fixed new history
-WritesPrepared fixed history prepared new (Err writing.NothingToWrite) = ⊥
-WritesPrepared fixed history prepared new (Err (writing.TooWide table id count)) =
-    IsHere (ledger_of fixed.rules history) prepared × Writes fixed history (wanted prepared.steps.items) new (Err (writing.TooWide table id count))
-WritesPrepared fixed history prepared new (Err (writing.OpsFull last)) =
-    IsHere (ledger_of fixed.rules history) prepared × Writes fixed history (wanted prepared.steps.items) new (Err (writing.OpsFull last))
-WritesPrepared fixed history prepared new (Err writing.Memory) =
-    IsHere (ledger_of fixed.rules history) prepared × Writes fixed history (wanted prepared.steps.items) new (Err writing.Memory)
-WritesPrepared fixed history prepared new (Ok wrote) = IsHere (ledger_of fixed.rules history) prepared × Writes fixed history (wanted prepared.steps.items) new (Ok wrote)
+WritesPrepared fixed history prepared new result = WritesAhead fixed history (Leaves StoreStandsFor fixed history new) prepared result
 
 -- ---- a law
 

@@ -23,8 +23,11 @@ pub mod Plans
 pub mod Readings
 pub mod Costs
 pub mod StoreGenerations
+pub mod Changing
+pub mod ChangingRules
 pub mod Stores
 pub mod Deploys
+pub mod Serving
 pub mod Keeping
 pub mod Histories
 pub mod LedgerLaws

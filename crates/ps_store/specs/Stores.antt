@@ -1,5 +1,5 @@
 -- The store stands for a history.
-use Rattle.std.specs.Prelude.{◌≡◌, ◌≢◌, ℕ, ◌+◌, ◌*◌, ◌^◌, ◌≤◌, ◌<◌, ◌⊎◌, max, true, false, if◌then◌else◌, nat_lt, List, [], ◌∷◌, ◌++◌, length, take, drop, Option, Some, None, Result, Ok, Err}
+use Rattle.std.specs.Prelude.{◌≡◌, ℕ, ◌+◌, ◌*◌, ◌^◌, ◌≤◌, ◌⊎◌, if◌then◌else◌, nat_lt, List, ◌∷◌, ◌++◌, length, take, drop, Option, Some, None, Result}
 use Rattle.std.specs.FinMap.Entries.{find}
 use Rattle.ps_bucket_log.specs.Logs.{IsRising}
 use Rattle.ps_bucket_log.specs.Ops.{newest}
@@ -12,36 +12,33 @@ use Rattle.ps_definitions.specs.RuleSets.{AreRules}
 use Rattle.ps_params.specs.Indexes.{Index}
 use Rattle.ps_params.specs.Notes.{SameFrom}
 use Rattle.ps_compact.specs.declared.reports.Report.{Report}
-use Rattle.ps_compact.specs.Compaction.{report_of}
 use Rattle.ps_store.specs.declared.faults.CompactFault.{CompactFault}
-use Rattle.ps_store.specs.declared.faults.CompactFault.TheVariants as compacting
 use Rattle.ps_write_cp.specs.declared.faults.NumberFault.{NumberFault}
-use Rattle.ps_write_cp.specs.declared.faults.NumberFault.TheVariants as numbering
 use Rattle.ps_write_cp.specs.Kept.{Kept, StandsFor}
 use Rattle.ps_write_cp.specs.Numbers.{Made}
 use Rattle.ps_store.specs.declared.faults.FeedFault.{FeedFault}
-use Rattle.ps_store.specs.declared.faults.FeedFault.TheVariants as feeding
 use Rattle.ps_store.specs.declared.faults.NothingToCommit.{NothingToCommit}
 use Rattle.ps_store.specs.declared.faults.WriteFault.{WriteFault}
 use Rattle.ps_store.specs.declared.faults.WriteFault.TheVariants as writing
 use Rattle.ps_store.specs.declared.fixed.Fixed.{Fixed}
 use Rattle.ps_store.specs.declared.fixed.Limits.{Limits}
 use Rattle.ps_store.specs.declared.events.Event.{Event}
-use Rattle.ps_store.specs.declared.events.Event.TheVariants.{Feed, Write, Commit, Compact, WriteCheckpoint}
 use Rattle.ps_store.specs.declared.plans.Plan.{Plan}
 use Rattle.ps_store.specs.declared.plans.Refusal.{Refusal}
 use Rattle.ps_store.specs.declared.plans.Refusal.TheVariants as refusals
 use Rattle.ps_store.specs.declared.stores.Checkpoint.{Checkpoint}
 use Rattle.ps_store.specs.declared.stores.Store.{Store}
 use Rattle.ps_store.specs.declared.stores.Wrote.{Wrote}
-use Rattle.ps_store.specs.Ledgers.{Ledger, head_of, unwritten, entries_after, next_ops, ledger_of, IsLegal, last_number, force_ops}
+use Rattle.ps_store.specs.Changing as changing
+use Rattle.ps_store.specs.Changing.{Leaves}
+pub use Rattle.ps_store.specs.Changing.{IsRefused, next_run}
+use Rattle.ps_store.specs.Ledgers.{Ledger, head_of, unwritten, ledger_of, IsLegal}
 use Rattle.ps_store.specs.Laws.{HaveNumbers}
 use Rattle.ps_store.specs.Limits.{greatest, AreWithin}
 use Rattle.ps_store.specs.Originals.{Timed, timed, standing_entries, in_bucket}
 use Rattle.ps_store.specs.Reach.{reached}
 use Rattle.ps_store.specs.Rows.{row_at}
 use Rattle.ps_store.specs.Readings.{committed_of}
-use Rattle.ps_store.specs.Runs.{Run, run_from}
 use Rattle.ps_store.specs.StoreGenerations.{by_of, log_in, IndexStandsFor, HasGenerations, IsAlike, IsQueued}
 use Rattle.ps_store.specs.StoreLogs.{log_at, has_ops, first_ops}
 use Rattle.ps_store.specs.Tails.{Tied, Ascend, EndsRise, last_end, ids, reach_after, rows_after, notes_after}
@@ -172,73 +169,24 @@ IsNamed store (Some refusals.OpsFull) fault = fault ≡ writing.OpsFull store.la
 
 -- a transaction was fed, or why it was not
 abbrev pub Feeds : Fixed → List Event → Transaction → Store → Result (Unit {0}) FeedFault → Type 0
-Feeds fixed history t new (Ok done) = StoreStandsFor fixed new (history ++ Feed t ∷ [])
-Feeds fixed history t new (Err feeding.FeedClosed) = ((ledger_of fixed.rules history).closed ≡ true) × StoreStandsFor fixed new history
-Feeds fixed history t new (Err (feeding.NotRising last given)) =
-    ((ledger_of fixed.rules history).closed ≡ false) × (t.position.0 ≤ head_of (ledger_of fixed.rules history).fed)
-    × (last.0 ≡ head_of (ledger_of fixed.rules history).fed) × (given ≡ t.position) × StoreStandsFor fixed new history
-Feeds fixed history t new (Err (feeding.PositionFull head)) = ⊥
-Feeds fixed history t new (Err feeding.Memory) =
-    ((ledger_of fixed.rules history).closed ≡ false) × (head_of (ledger_of fixed.rules history).fed < t.position.0) × StoreStandsFor fixed new history
+Feeds fixed history t new result = changing.Feeds fixed history (Leaves StoreStandsFor fixed history new) t result
 
 -- changes were fed at the position after the head, or why they were not
 abbrev pub Uploads : Fixed → List Event → List Change → Store → Result Position FeedFault → Type 0
-Uploads fixed history changes new (Ok position) =
-    (head_of (ledger_of fixed.rules history).fed < fixed.limits.positions) × (position.0 ≡ head_of (ledger_of fixed.rules history).fed + 1)
-    × StoreStandsFor fixed new (history ++ Feed (record { position = position; changes = changes }) ∷ [])
-Uploads fixed history changes new (Err feeding.FeedClosed) = ((ledger_of fixed.rules history).closed ≡ true) × StoreStandsFor fixed new history
-Uploads fixed history changes new (Err (feeding.NotRising last given)) = ⊥
-Uploads fixed history changes new (Err (feeding.PositionFull head)) =
-    ((ledger_of fixed.rules history).closed ≡ false) × (fixed.limits.positions ≤ head_of (ledger_of fixed.rules history).fed)
-    × (head.0 ≡ head_of (ledger_of fixed.rules history).fed) × StoreStandsFor fixed new history
-Uploads fixed history changes new (Err feeding.Memory) =
-    ((ledger_of fixed.rules history).closed ≡ false) × (head_of (ledger_of fixed.rules history).fed < fixed.limits.positions) × StoreStandsFor fixed new history
-
--- why no change is written
-abbrev pub IsRefused : Limits → Ledger → WriteFault → Type 0
-IsRefused limits l writing.NothingToWrite = unwritten l ≡ []
-IsRefused limits l (writing.TooWide table id count) =
-    (t : Timed) × (ts : List Timed) × (unwritten l ≡ t ∷ ts) × (limits.entries < length (entries_after l t))
-    × (t.change.table ≡ table) × (t.change.id ≡ id) × (count ≡ limits.entries + 1)
-IsRefused limits l (writing.OpsFull last) =
-    (t : Timed) × (ts : List Timed) × (unwritten l ≡ t ∷ ts) × (length (entries_after l t) ≤ limits.entries)
-    × (limits.ops < l.last + length (next_ops l t)) × (last.0 ≡ l.last)
-IsRefused limits l (writing.Moved from written generation) = ⊥
-IsRefused limits l writing.Memory = unwritten l ≢ []
-
--- the longest run of next changes that can be written, at most so many
-abbrev pub next_run : Fixed → List Event → ℕ → Run
-next_run fixed history limit = run_from fixed.limits (ledger_of fixed.rules history) 0 (take limit (unwritten (ledger_of fixed.rules history)))
+Uploads fixed history changes new result = changing.Uploads fixed history (Leaves StoreStandsFor fixed history new) changes result
 
 -- that run was written, or why nothing was
 abbrev pub Writes : Fixed → List Event → ℕ → Store → Result Wrote WriteFault → Type 0
-Writes fixed history limit new (Ok wrote) =
-    (1 ≤ wrote.changes) × (wrote.changes ≡ (next_run fixed history limit).count)
-    × (wrote.last_op.0 ≡ (ledger_of fixed.rules (history ++ Write wrote.changes ∷ [])).last) × ((ledger_of fixed.rules history).last + wrote.ops ≡ wrote.last_op.0)
-    × StoreStandsFor fixed new (history ++ Write wrote.changes ∷ [])
-Writes fixed history limit new (Err fault) = IsRefused fixed.limits (ledger_of fixed.rules history) fault × StoreStandsFor fixed new history
+Writes fixed history limit new result = changing.Writes fixed history (Leaves StoreStandsFor fixed history new) limit result
 
 -- the log of a bucket was compacted at the checkpoint's op, or why it was not: it is no bucket of the generation in force that has an operation
 abbrev pub Compacts : Fixed → List Event → List ℕ → Store → Result Report CompactFault → Type 0
-Compacts fixed history bucket new (Ok report) =
-    (report ≡ report_of (ledger_of fixed.rules history).op ((ledger_of fixed.rules history).log bucket))
-    × StoreStandsFor fixed new (history ++ Compact bucket ∷ [])
-Compacts fixed history bucket new (Err compacting.NoBucket) = (force_ops (ledger_of fixed.rules history) bucket ≡ []) × StoreStandsFor fixed new history
-Compacts fixed history bucket new (Err compacting.Memory) = (force_ops (ledger_of fixed.rules history) bucket ≢ []) × StoreStandsFor fixed new history
+Compacts fixed history bucket new result = changing.Compacts fixed history (Leaves StoreStandsFor fixed history new) bucket result
 
 -- what was reached is the checkpoint, or was before
 abbrev pub Commits : Fixed → List Event → Store → Result Checkpoint NothingToCommit → Type 0
-Commits fixed history new (Ok checkpoint) =
-    (checkpoint.position.0 ≡ (ledger_of fixed.rules history).reach.position) × (checkpoint.op.0 ≡ max (ledger_of fixed.rules history).op (ledger_of fixed.rules history).reach.op)
-    × StoreStandsFor fixed new (history ++ Commit ∷ [])
-Commits fixed history new (Err nothing) = ((ledger_of fixed.rules history).reach.position ≡ (ledger_of fixed.rules history).position) × StoreStandsFor fixed new history
+Commits fixed history new result = changing.Commits fixed history (Leaves StoreStandsFor fixed history new) result
 
 -- a user's client got its next number, at the head, or why it did not
 abbrev pub MakesNumber : Fixed → List Event → List ℕ → List ℕ → Store → Result ℕ NumberFault → Type 0
-MakesNumber fixed history user client new (Ok number) =
-    (number ≡ last_number (ledger_of fixed.rules history) user client + 1) × (last_number (ledger_of fixed.rules history) user client < fixed.limits.numbers)
-    × StoreStandsFor fixed new (history ++ WriteCheckpoint user client ∷ [])
-MakesNumber fixed history user client new (Err (numbering.NumberFull last)) =
-    (last ≡ last_number (ledger_of fixed.rules history) user client) × (last ≡ fixed.limits.numbers) × StoreStandsFor fixed new history
-MakesNumber fixed history user client new (Err numbering.Memory) =
-    (last_number (ledger_of fixed.rules history) user client < fixed.limits.numbers) × StoreStandsFor fixed new history
+MakesNumber fixed history user client new result = changing.MakesNumber fixed history (Leaves StoreStandsFor fixed history new) user client result

@@ -1,6 +1,6 @@
 //! The store as a value that a lock keeps.
 
-ghost use Rattle.ps_store.specs.Keeping.{KeepsHistory};
+ghost use Rattle.ps_store.specs.Stores.{StoreStandsFor};
 
 use crate::events::Event;
 use crate::fixed::Fixed;
@@ -15,5 +15,5 @@ impl Kept for Store {
 
     ghost set_by = { λ store. store.fixed };
 
-    ghost stands = { KeepsHistory };
+    ghost stands = { StoreStandsFor };
 }
