@@ -15,9 +15,9 @@ use ps_bucket_log::{Batch, Log, Op, Steps};
 use ps_checksum::{Sum, add};
 use ps_data::{Items, Memory, OpId};
 use std::alloc::Global;
-use std::marker::Model;
+use std::marker::{Brand, Model};
 use std::mem;
-use std::sync::ledger::Ledger;
+use std::sync::ledger::{Blank, Ledger};
 
 // From how many operations on the growing segment is sealed.
 const SEGMENT: usize = 256;
@@ -81,6 +81,34 @@ impl SegmentLog {
             upto,
             steps,
         )
+    }
+
+    fn view_in<L: Ledger>(
+        &self,
+        alloc: Global,
+        after: OpId,
+        upto: OpId,
+        blank: Blank,
+    ) -> Result<BatchView, Memory>
+        requires name { blank.name ≡ L.name }
+        requires parts { blank.parts ≡ L.parts }
+        requires some { 0 < blank.parts }
+        ensures { IfOk result (λ view. view ≡ batch_of after.0 upto.0 self.now.ops) }
+    {
+        let mut steps = Steps::<L>::new(blank);
+        self.read_view(alloc, after, upto, &mut steps)
+    }
+
+    /// `read_view`, with steps that nobody counts.
+    pub fn view_uncounted(
+        &self,
+        alloc: Global,
+        after: OpId,
+        upto: OpId,
+    ) -> Result<BatchView, Memory>
+        ensures { IfOk result (λ view. view ≡ batch_of after.0 upto.0 self.now.ops) }
+    {
+        self.view_in::<Brand>(alloc, after, upto, Blank::new(1))
     }
 
     // Puts an operation at the end, in room that is there.

@@ -1,6 +1,6 @@
 //! Batches that are read in two: what they are made of in a turn, and the batch behind it.
 
-ghost use Rattle.std.specs.Prelude.{◌≡◌, List, ℕ, Some, IfOk};
+ghost use Rattle.std.specs.Prelude.{◌≡◌, ◌<◌, List, ℕ, Some, IfOk};
 ghost use Rattle.ps_bucket_log.specs.declared.ops.Op.{Op as OpSeen};
 ghost use Rattle.ps_store.specs.declared.events.Event.{Event as EventSeen};
 ghost use Rattle.ps_store.specs.declared.fixed.Fixed.{Fixed as FixedSeen};
@@ -16,7 +16,8 @@ use ps_bucket_log::Steps;
 use ps_data::{Memory, OpId, Text};
 use ps_segments::BatchView;
 use std::alloc::Global;
-use std::sync::ledger::Ledger;
+use std::marker::Brand;
+use std::sync::ledger::{Blank, Ledger};
 
 impl Store {
     /// What `read_batch` gives, before it is made: `BatchView::batch` makes it of the store as it is now, whatever changes
@@ -40,6 +41,38 @@ impl Store {
                 .read_view(alloc, bucket, after, upto, steps),
             Some(ending) => Ok(ended_view(alloc, ending, upto)),
         }
+    }
+
+    fn view_in<L: Ledger>(
+        &self,
+        alloc: Global,
+        bucket: &Text,
+        after: OpId,
+        upto: OpId,
+        blank: Blank,
+    ) -> Result<BatchView, Memory>
+        requires name { blank.name ≡ L.name }
+        requires parts { blank.parts ≡ L.parts }
+        requires some { 0 < blank.parts }
+        ensures { (fixed : FixedSeen) (history : List EventSeen) → StoreStandsFor fixed self.now history
+            → IfOk result (λ view. view ≡ batch_of (ledger_of fixed.rules history) bucket.now after.0 upto.0) }
+    {
+        let mut steps = Steps::<L>::new(blank);
+        self.read_view(alloc, bucket, after, upto, &mut steps)
+    }
+
+    /// `Store::read_view`, with steps that nobody counts.
+    pub fn view_uncounted(
+        &self,
+        alloc: Global,
+        bucket: &Text,
+        after: OpId,
+        upto: OpId,
+    ) -> Result<BatchView, Memory>
+        ensures { (fixed : FixedSeen) (history : List EventSeen) → StoreStandsFor fixed self.now history
+            → IfOk result (λ view. view ≡ batch_of (ledger_of fixed.rules history) bucket.now after.0 upto.0) }
+    {
+        self.view_in::<Brand>(alloc, bucket, after, upto, Blank::new(1))
     }
 }
 

@@ -10,7 +10,8 @@
 //! `deploy` begins a generation by the rules file as it is then, and `build LIMIT`, `switch`, `abandon`, `building` and `committed` are
 //! the other calls for new rules; a sixth number of `store` is the limit of generations.
 //! `take USER PARAMETERS` takes the checkpoint of a user, `take-as CLIENT USER PARAMETERS` that of a user's client, whose number is printed
-//! where there is one, and `read AFTER UPTO BUCKET` reads a batch.
+//! where there is one, and `read AFTER UPTO BUCKET` reads a batch. `view AFTER UPTO BUCKET` keeps a view of one, and prints nothing; `made`
+//! prints the batch of the view that was kept last.
 #![tactic(auto)]
 
 ghost use Rattle.case_stores.specs.Histories.{HasHistory};
@@ -24,7 +25,7 @@ mod texts;
 mod uploading;
 
 use case_words::{Stop, cut};
-use ps_store::Store;
+use ps_store::{BatchView, Store};
 use std::alloc::Global;
 use std::io;
 use texts::Texts;
@@ -154,6 +155,7 @@ fn answer(
     alloc: Global,
     texts: &mut Texts,
     store: &mut Store,
+    view: &mut Option<BatchView>,
     line: &str,
     out: &mut String,
 ) -> Result<(), Stop>
@@ -168,6 +170,14 @@ fn answer(
         *store = changing::store_of(alloc, texts.rules(), rest)?;
         return Ok(());
     }
+    if word == "view" {
+        *view = Some(taking::view_of(alloc, store, rest)?);
+        return Ok(());
+    }
+    if let ("made", Some(view)) = (word, &*view) {
+        taking::show_view(alloc, view, out)?;
+        return Ok(out.push_str("\n")?);
+    }
     if act(alloc, texts, store, word, rest, out)? {
         Ok(out.push_str("\n")?)
     } else {
@@ -179,9 +189,17 @@ fn answer_all(rt: &HostRuntime) -> Result<(), Stop> {
     let cases = io::read_to_string(rt.alloc(), rt.reader())?;
     let mut texts = Texts::new(rt.alloc())?;
     let mut store = changing::store_of(rt.alloc(), texts.rules(), "")?;
+    let mut view = None;
     'lines: for line in cases.as_str().lines() {
         let mut out = String::new(rt.alloc());
-        answer(rt.alloc(), &mut texts, &mut store, line, &mut out)?;
+        answer(
+            rt.alloc(),
+            &mut texts,
+            &mut store,
+            &mut view,
+            line,
+            &mut out,
+        )?;
         print!(rt; "{}", out.as_str())?;
     }
     Ok(())

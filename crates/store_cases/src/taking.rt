@@ -6,7 +6,7 @@ use case_words::{Stop, cut, number_in};
 use ps_bucket_log::{Batch, Op, Taken, TakenBucket};
 use ps_data::{Memory, OpId, Text};
 use ps_sql_eval::Asker;
-use ps_store::{Store, TakeFault};
+use ps_store::{BatchView, Store, TakeFault};
 use std::alloc::Global;
 
 // A user with parameters, by default none, and perhaps the user's client.
@@ -74,6 +74,13 @@ pub fn show_take_as(alloc: Global, store: &Store, words: &str, out: &mut String)
     show_taken(alloc, store, &asker, out)
 }
 
+fn is_same_batch(a: &Batch, b: &Batch) -> bool {
+    a.ops.as_slice() == b.ops.as_slice()
+        && a.has_more == b.has_more
+        && a.target == b.target
+        && a.passed == b.passed
+}
+
 fn push_op(out: &mut String, op: &Op) -> Result<(), Stop> {
     match op {
         Op::Put { id, key, .. } => Ok(write!(out, " put {} {};", id.0, key.id.as_str())?),
@@ -100,14 +107,33 @@ fn push_batch(out: &mut String, batch: &Batch) -> Result<(), Stop> {
     Ok(())
 }
 
-/// The operations of a bucket past an id and up to one: `AFTER UPTO BUCKET`.
-pub fn show_read(alloc: Global, store: &Store, words: &str, out: &mut String) -> Result<(), Stop> {
+// The numbers and the bucket of `AFTER UPTO BUCKET`.
+fn place_of(alloc: Global, words: &str) -> Result<(OpId, OpId, Text), Stop> {
     let (after, words) = cut(words);
     let (upto, bucket) = cut(words);
     let (after, upto) = (number_in(after)?, number_in(upto)?);
     let bucket = Text::from_str(alloc, bucket)?;
-    match store.read_uncounted(alloc, &bucket, OpId(after), OpId(upto)) {
-        Ok(batch) => push_batch(out, &batch),
-        Err(Memory) => Ok(out.push_str("memory")?),
+    Ok((OpId(after), OpId(upto), bucket))
+}
+
+/// The operations of a bucket past an id and up to one: `AFTER UPTO BUCKET`. A view of them has to give the same.
+pub fn show_read(alloc: Global, store: &Store, words: &str, out: &mut String) -> Result<(), Stop> {
+    let (after, upto, bucket) = place_of(alloc, words)?;
+    let batch = store.read_uncounted(alloc, &bucket, after, upto)?;
+    let view = store.view_uncounted(alloc, &bucket, after, upto)?;
+    if !is_same_batch(&batch, &view.batch(alloc)?) {
+        return Err("a view gives another batch".into());
     }
+    push_batch(out, &batch)
+}
+
+/// A view of the operations of a bucket past an id and up to one: `AFTER UPTO BUCKET`.
+pub fn view_of(alloc: Global, store: &Store, words: &str) -> Result<BatchView, Stop> {
+    let (after, upto, bucket) = place_of(alloc, words)?;
+    Ok(store.view_uncounted(alloc, &bucket, after, upto)?)
+}
+
+/// The batch of a view.
+pub fn show_view(alloc: Global, view: &BatchView, out: &mut String) -> Result<(), Stop> {
+    push_batch(out, &view.batch(alloc)?)
 }
