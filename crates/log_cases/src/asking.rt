@@ -6,6 +6,7 @@ use case_words::Stop;
 use ps_bucket_log::uncounted::{count_upto, newest_upto, read, sum_upto};
 use ps_bucket_log::{Batch, Log};
 use ps_data::OpId;
+use ps_segments::BatchView;
 use std::alloc::Global;
 
 /// How many answers were compared, and how many of them differ.
@@ -43,7 +44,33 @@ fn ask_read(
     let plain = read(alloc, &logs.plain, after, upto)?;
     let segments = read(alloc, &logs.segments, after, upto)?;
     asked.note(is_same_batch(&plain, &segments));
+    let view = logs.segments.view_uncounted(alloc, after, upto)?;
+    asked.note(is_same_batch(&plain, &view.batch(alloc)?));
     Ok(())
+}
+
+/// What is read past a place of both logs, of the one in segments as a view.
+#[derive(Drop)]
+pub struct Kept {
+    plain: Batch,
+    view: BatchView,
+}
+
+impl Kept {
+    /// Reads all past a place.
+    pub fn new(alloc: Global, logs: &Logs, place: u64) -> Result<Kept, Stop> {
+        let (after, upto) = (OpId(place), OpId(u64::MAX));
+        Ok(Kept {
+            plain: read(alloc, &logs.plain, after, upto)?,
+            view: logs.segments.view_uncounted(alloc, after, upto)?,
+        })
+    }
+
+    /// Compares them, whatever became of the logs.
+    pub fn ask(&self, alloc: Global, asked: &mut Asked) -> Result<(), Stop> {
+        asked.note(is_same_batch(&self.plain, &self.view.batch(alloc)?));
+        Ok(())
+    }
 }
 
 // Asks at one place, and reads between it and another.

@@ -3,7 +3,7 @@
 ghost use Rattle.std.specs.Prelude.{◌≡◌};
 ghost use Rattle.ps_bucket_log.specs.Ops.{newest};
 
-use crate::asking::{Asked, ask_all};
+use crate::asking::{Asked, Kept, ask_all};
 use crate::chance::Chance;
 use case_words::{Stop, cut, number_in};
 use ps_bucket_log::{BucketLog, Log, Op};
@@ -118,9 +118,11 @@ pub fn write_calls(alloc: Global, words: &str, out: &mut String) -> Result<(), S
     'calls: for _ in 0..number_in(calls)? {
         let newest = newest_of(alloc, &logs)?;
         let call = next_call(&mut chance, most, newest);
+        let kept = Kept::new(alloc, &logs, newest / 3)?;
         let mut same_chance = chance;
         call_one(alloc, &mut logs.plain, call, &mut chance)?;
         call_one(alloc, &mut logs.segments, call, &mut same_chance)?;
+        kept.ask(alloc, &mut asked)?;
         let newest = newest_of(alloc, &logs)?;
         ask_all(alloc, &logs, newest, &mut chance, &mut asked)?;
     }

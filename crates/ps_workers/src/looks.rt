@@ -1,6 +1,7 @@
 //! What is read of a shared store, each in one turn that adds nothing to the history.
 
 ghost use Rattle.std.specs.Prelude.{◌≡◌, ◌↔◌, ◌+◌, ◌≤◌, ◌++◌, true, List, None, IfOk, OnErr, IsTrue, length, map, vec_len, vec_capacity};
+ghost use Rattle.ps_bucket_log.specs.declared.batches.Batch.{Batch as BatchSeen};
 ghost use Rattle.ps_lock.specs.Words.{IsSeatOf};
 ghost use Rattle.ps_store.specs.declared.events.Event.{Event as EventSeen};
 ghost use Rattle.ps_store.specs.declared.fixed.Fixed.{Fixed as FixedSeen};
@@ -14,6 +15,7 @@ use crate::shared::SharedStore;
 use ps_bucket_log::{Batch, Taken};
 use ps_data::{Items, Memory, OpId, Position, Text};
 use ps_lock::{Seat, StoreLock};
+use ps_segments::BatchView;
 use ps_sql_eval::Asker;
 use ps_store::{Checkpoint, Store, TakeFault, Totals};
 use std::alloc::{AllocError, Global};
@@ -89,7 +91,18 @@ pub fn take_in_turn<R: Wait>(
     (turn.leave(), look, taken)
 }
 
-/// Reads a batch of a bucket in one turn, and looks at the store in it. Fails as `Store::read_batch` does. The seat is one of the lock's.
+// The batch of a view.
+fn batch_of_view(alloc: Global, view: Result<BatchView, Memory>) -> Result<Batch, Memory>
+    ensures { (batch : BatchSeen) → IfOk view (λ seen. seen ≡ batch) → IfOk result (λ made. made ≡ batch) }
+{
+    match view {
+        Ok(kept) => kept.batch(alloc),
+        Err(Memory) => Err(Memory),
+    }
+}
+
+/// Reads a batch of a bucket in one turn, and looks at the store in it. The batch is made behind the turn, of what the store was in it. Fails
+/// as `Store::read_batch` does. The seat is one of the lock's.
 pub fn read_in_turn<R: Wait>(
     rt: &R,
     alloc: Global,
@@ -105,11 +118,12 @@ pub fn read_in_turn<R: Wait>(
 {
     let mut turn = lock.turn(rt, seat);
     let look = look_at(&turn.value().store);
-    let batch = turn
+    let view = turn
         .value()
         .store
-        .read_uncounted(alloc, bucket, after, upto);
-    (turn.leave(), look, batch)
+        .view_uncounted(alloc, bucket, after, upto);
+    let seat = turn.leave();
+    (seat, look, batch_of_view(alloc, view))
 }
 
 /// Reads the names of the buckets of the generation in force that ever had an operation, in byte order, in one turn, and looks at the

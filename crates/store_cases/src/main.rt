@@ -150,6 +150,15 @@ fn act(
     show(alloc, store, word, rest, out)
 }
 
+// The batch of the view that was kept last.
+fn show_made(alloc: Global, kept: &Option<BatchView>, out: &mut String) -> Result<(), Stop> {
+    match kept {
+        Some(view) => taking::show_view(alloc, view, out)?,
+        None => return Err("no view is kept".into()),
+    }
+    Ok(out.push_str("\n")?)
+}
+
 // Answers a line, or takes what it adds to a file.
 fn answer(
     alloc: Global,
@@ -174,9 +183,8 @@ fn answer(
         *view = Some(taking::view_of(alloc, store, rest)?);
         return Ok(());
     }
-    if let ("made", Some(view)) = (word, &*view) {
-        taking::show_view(alloc, view, out)?;
-        return Ok(out.push_str("\n")?);
+    if word == "made" {
+        return show_made(alloc, view, out);
     }
     if act(alloc, texts, store, word, rest, out)? {
         Ok(out.push_str("\n")?)
