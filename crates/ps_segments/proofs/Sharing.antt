@@ -1,5 +1,5 @@
 -- What is shared and copied of a log is enough to read a batch.
-use Rattle.std.proofs.Common.{◌≡◌, ℕ, zero, suc, ◌+◌, ◌-◌, ◌<◌, ◌≤◌, ◌⊎◌, inl, inr, List, [], ◌∷◌, ◌++◌, take, drop, get_or, length, refl, sym, subst, ap, ◌∙◌, arith, append_assoc, length-append}
+use Rattle.std.proofs.Common.{◌≡◌, ℕ, ◌+◌, ◌-◌, ◌<◌, ◌≤◌, ◌⊎◌, inl, inr, List, [], ◌∷◌, ◌++◌, take, drop, get_or, length, refl, sym, subst, ap, ◌∙◌, arith, append_assoc, length-append}
 use Rattle.std.proofs.lemmas.Bool.{cases_lt}
 use Rattle.std.proofs.lemmas.List.{append-nil, take_more, take_all, drop_more, drop_all, take-append-drop, length-drop, length-take-le}
 use Rattle.ps_bucket_log.specs.Ops.{id_of}
@@ -58,25 +58,32 @@ shared_more i sealed segments s within is shared =
     ap (λ ts. ts ++ s ∷ []) shared ∙ ap (λ x. take i sealed ++ x ∷ []) is ∙ sym (take_more sealed i s within)
 
 -- one more segment has its operations, of the first one those from the place on
+counted_push : (from place : ℕ) (front : List (List Entry)) (s : List Entry) → (length front ≡ 0 → place ≡ from) → (0 < length front → place ≡ 0)
+    → length (entries_from from (front ++ s ∷ []) []) ≡ length (entries_from from front []) + (length s - place)
+counted_push from place [] s first later =
+    let none : length (entries_from from [] []) ≡ 0 = ap length (drop_all from [] (omega arith)) in
+    let own : length (entries_from from (s ∷ []) []) ≡ length s - from = ap length (append-nil (drop from s)) ∙ length-drop from s in
+    let same : length s - place ≡ length s - from = ap (λ n. length s - n) (first refl) in
+    omega (arith, none, own, same)
+counted_push from place (x ∷ xs) s first later =
+    let whole : entries_of (xs ++ s ∷ []) [] ≡ entries_of xs [] ++ (s ++ []) = entries-split xs (s ∷ []) [] in
+    let size : length (entries_of (xs ++ s ∷ []) []) ≡ length (entries_of xs []) + length s =
+    ap length whole ∙ length-append (entries_of xs []) (s ++ []) ∙ ap (λ es. length (entries_of xs []) + length es) (append-nil s) in
+    omega (
+      arith,
+      size,
+      length-append (drop from x) (entries_of xs []),
+      length-append (drop from x) (entries_of (xs ++ s ∷ []) []),
+      later (omega arith),
+    )
+
 pub counted_more : (from place i : ℕ) (sealed : List (List Entry)) (s : List Entry) → i < length sealed → s ≡ get_or sealed i s
     → (i ≡ 0 → place ≡ from) → (0 < i → place ≡ 0)
     → length (entries_from from (take (i + 1) sealed) []) ≡ length (entries_from from (take i sealed) []) + (length s - place)
-counted_more from place i [] s within is first later = absurd (omega arith)
-counted_more from place zero (x ∷ xs) s within is first later =
-    let none : length (entries_from from [] []) ≡ 0 = ap length (drop_all from [] (omega arith)) in
-    let own : length (drop from x ++ []) ≡ length x - from = ap length (append-nil (drop from x)) ∙ length-drop from x in
-    let same : length s - place ≡ length x - from = ap (λ es. length es - place) is ∙ ap (λ n. length x - n) (first refl) in
-    omega (arith, none, own, same)
-counted_more from place (suc i) (x ∷ xs) s within is first later =
-    let whole : entries_of (take (i + 1) xs) [] ≡ entries_of (take i xs) [] ++ (s ++ []) =
-    ap (λ ts. entries_of ts []) (take_more xs i s (omega arith) ∙ ap (λ y. take i xs ++ y ∷ []) (sym is)) ∙ entries-split (take i xs) (s ∷ []) [] in
-    let size : length (entries_of (take (i + 1) xs) []) ≡ length (entries_of (take i xs) []) + length s =
-    ap length whole ∙ length-append (entries_of (take i xs) []) (s ++ []) ∙ ap (λ es. length (entries_of (take i xs) []) + length es) (append-nil s) in
-    let before : length (drop from x ++ entries_of (take i xs) []) ≡ length (drop from x) + length (entries_of (take i xs) []) =
-    length-append (drop from x) (entries_of (take i xs) []) in
-    let after : length (drop from x ++ entries_of (take (i + 1) xs) []) ≡ length (drop from x) + length (entries_of (take (i + 1) xs) []) =
-    length-append (drop from x) (entries_of (take (i + 1) xs) []) in
-    omega (arith, size, before, after, later (omega arith))
+counted_more from place i sealed s within is first later =
+    let size : length (take i sealed) ≡ i = length-take-le i sealed (omega arith) in
+    ap (λ ts. length (entries_from from ts [])) (take_more sealed i s within ∙ ap (λ x. take i sealed ++ x ∷ []) (sym is))
+    ∙ counted_push from place (take i sealed) s (λ none. first (omega (arith, size, none))) (λ some. later (omega (arith, size, some)))
 
 pub shared_front : (from i missing : ℕ) (sealed segments : List (List Entry)) → segments ≡ take i sealed → enough_ops ≤ missing + length (entries_from from (take i sealed) [])
     → ((missing ≡ 0) ⊎ (length sealed ≤ i)) → IsShared from sealed segments missing
