@@ -120,6 +120,7 @@ module _ {d : Ghosts SharedStore Event Terms} (fixed : Fixed) (next : Option Nex
       (written_looking next batch history before after it.0, subst (λ (h : List Event). IsRefused fixed.limits (ledger_of fixed.rules h) (writing.TooWide table id count)) (sym it.0.seen) it.1)
   writes_next longest history batch before after (Err (writing.OpsFull last)) it =
       (written_looking next batch history before after it.0, subst (λ (h : List Event). IsRefused fixed.limits (ledger_of fixed.rules h) (writing.OpsFull last)) (sym it.0.seen) it.1)
+  writes_next longest history batch before after (Err (writing.Moved from written generation)) it = absurd it.1
   writes_next longest history batch before after (Err writing.Memory) it = written_looking next batch history before after it.0
 
   -- it was written, or not
@@ -128,6 +129,7 @@ module _ {d : Ghosts SharedStore Event Terms} (fixed : Fixed) (next : Option Nex
   wrote_or_not batch before after (Err writing.NothingToWrite) it = it.0
   wrote_or_not batch before after (Err (writing.TooWide table id count)) it = it.0
   wrote_or_not batch before after (Err (writing.OpsFull last)) it = it.0
+  wrote_or_not batch before after (Err (writing.Moved from written generation)) it = it.0
   wrote_or_not batch before after (Err writing.Memory) it = it
 
   -- after what was committed a batch was written, or not
@@ -153,6 +155,7 @@ module _ {d : Ghosts SharedStore Event Terms} (fixed : Fixed) (next : Option Nex
       let is : ends.OpsFull last ≡ end = cc same in
       subst (λ (e : WorkEnd). FeedsAndWrites fixed next [] batch before after e) is
       (record { fed = []; first = prefix_self []; written = written_on next batch [] before between after one it.0; ends = (refl, inl it.1) })
+  wrote_last batch before between after (Err (writing.Moved from written generation)) end same one it = absurd (cc same)
   wrote_last batch before between after (Err writing.Memory) end same one it =
       let is : ends.Memory ≡ end = cc same in
       subst (λ (e : WorkEnd). FeedsAndWrites fixed next [] batch before after e) is

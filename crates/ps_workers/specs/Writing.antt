@@ -9,7 +9,7 @@ use Rattle.ps_store.specs.declared.events.Event.TheVariants.{Feed, Commit}
 use Rattle.ps_store.specs.declared.faults.FeedFault.{FeedFault}
 use Rattle.ps_store.specs.declared.faults.FeedFault.TheVariants as feeding
 use Rattle.ps_store.specs.declared.faults.WriteFault.{WriteFault}
-use Rattle.ps_store.specs.declared.faults.WriteFault.TheVariants.{NothingToWrite, TooWide, OpsFull, Memory}
+use Rattle.ps_store.specs.declared.faults.WriteFault.TheVariants.{NothingToWrite, TooWide, OpsFull, Moved, Memory}
 use Rattle.ps_store.specs.declared.fixed.Fixed.{Fixed}
 use Rattle.ps_store.specs.declared.stores.Wrote.{Wrote}
 use Rattle.ps_store.specs.Ledgers.{ledger_of}
@@ -32,12 +32,13 @@ end_for (feeding.NotRising last given) = ends.Stopped
 end_for (feeding.PositionFull head) = ends.Stopped
 end_for feeding.Memory = ends.Memory
 
--- whether it wrote a batch, or how it ends
+-- whether it goes on at once, or how it ends
 abbrev pub past_write : Result Wrote WriteFault → Result Bool WorkEnd
 past_write (Ok wrote) = Ok true
 past_write (Err NothingToWrite) = Ok false
 past_write (Err (TooWide table id count)) = Err (ends.TooWide count)
 past_write (Err (OpsFull last)) = Err (ends.OpsFull last)
+past_write (Err (Moved from written generation)) = Ok true
 past_write (Err Memory) = Err ends.Memory
 
 module _ {d : Ghosts SharedStore Event Terms} (fixed : Fixed) where

@@ -92,12 +92,12 @@ fn write_next<R: Wait, G: Gate>(
     write_in_turn(place.rt, place.alloc, place.lock, seat, batch)
 }
 
-// Whether a batch was written, or how the writer ends.
+// Whether the writer goes on at once, or how it ends.
 fn after_write(wrote: Result<Wrote, WriteFault>) -> Result<bool, WorkEnd>
     ensures { result ≡ past_write wrote }
 {
     match wrote {
-        Ok(_) => Ok(true),
+        Ok(_) | Err(WriteFault::Moved { .. }) => Ok(true),
         Err(WriteFault::NothingToWrite) => Ok(false),
         Err(WriteFault::TooWide { count, .. }) => Err(WorkEnd::TooWide { count }),
         Err(WriteFault::OpsFull { last }) => Err(WorkEnd::OpsFull { last }),
