@@ -1,6 +1,7 @@
 pub mod Compactor
 pub mod Drained
 pub mod Narrow
+pub mod Prepared
 pub mod Renewed
 pub mod Ruled
 pub mod Sent

@@ -2,6 +2,7 @@ pub mod Compacting
 pub mod Compactions
 pub mod Gains
 pub mod Looks
+pub mod Preparing
 pub mod Renewals
 pub mod Renewing
 pub mod SharedLaws

@@ -11,6 +11,7 @@ mod laws;
 mod levels;
 mod looks;
 mod opening;
+mod preparing;
 mod renewals;
 mod renewing;
 mod requests;
@@ -29,6 +30,7 @@ pub use looks::{
     Look, lengths_in_turn, look_in_turn, names_in_turn, read_in_turn, take_in_turn, totals_in_turn,
 };
 pub use opening::open_store;
+pub use preparing::{ahead_in_turn, prepare_next, write_prepared_in_turn};
 pub use renewals::{build_in_turn, deploy_in_turn, switch_in_turn};
 pub use requests::{number_in_turn, upload_in_turn};
 pub use shared::{SharedStore, Terms};
